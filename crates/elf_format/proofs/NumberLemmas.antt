@@ -1,0 +1,28 @@
+-- A number at a place, in the other ways in which code and std spell it.
+use Rattle.std.proofs.Common.{◌≡◌, ℕ, ◌+◌, ◌*◌, List, arith}
+use Rattle.std.specs.Prelude.{slice_index}
+use Rattle.elf_format.specs.Bytes.{le, u16_at, u32_at, u64_at}
+
+at_itself : (at : ℕ) → at + 0 ≡ at
+at_itself at = omega arith
+
+pub u8_is_byte : (bytes : List ℕ) (at : ℕ) → le bytes at 1 ≡ slice_index bytes at
+unfolding le
+u8_is_byte bytes at = rw at_itself (omega arith)
+
+pub u16_is_sum : (bytes : List ℕ) (at : ℕ) → u16_at bytes at ≡ slice_index bytes at + 256 * slice_index bytes (at + 1)
+unfolding le
+u16_is_sum bytes at = rw at_itself (omega arith)
+
+pub u32_is_sum : (bytes : List ℕ) (at : ℕ) → u32_at bytes at ≡ slice_index bytes at + 256 * slice_index bytes (at + 1) + 65536 * slice_index bytes (at + 2) + 16777216 * slice_index bytes (at + 3)
+unfolding le
+u32_is_sum bytes at = rw at_itself (omega arith)
+
+pub u64_is_sum : (bytes : List ℕ) (at : ℕ) → u64_at bytes at ≡ u32_at bytes at + 4294967296 * u32_at bytes (at + 4)
+unfolding le
+u64_is_sum bytes at =
+    let e4 : at + 4 + 0 ≡ at + 4 = omega arith in
+    let e5 : at + 4 + 1 ≡ at + 5 = omega arith in
+    let e6 : at + 4 + 2 ≡ at + 6 = omega arith in
+    let e7 : at + 4 + 3 ≡ at + 7 = omega arith in
+    rw (at_itself, e4, e5, e6, e7) (omega arith)

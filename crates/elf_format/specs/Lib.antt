@@ -1,0 +1,13 @@
+pub mod Bytes
+pub mod Class
+pub mod Table
+pub mod Architecture
+pub mod Section
+pub mod Symbol
+pub mod Version
+pub mod Fault
+pub mod Example
+pub mod Leb128
+pub mod Crel
+pub mod Cursor
+pub mod Rela

@@ -1,0 +1,26 @@
+//! The definitions on a small object: what they say was worked out by hand.
+
+ghost use Rattle.std.specs.Prelude.{◌≡◌, length, Some, None, codes, false, set, drop, take, ◌++◌, [], ◌∷◌, slice_set};
+ghost use Rattle.elf_format.specs.Class.{class32, class64};
+ghost use Rattle.elf_format.specs.Section.{section_count, section_of_name};
+ghost use Rattle.elf_format.specs.declared.error.ElfError.TheVariants.{Header, Machine, SectionTable};
+ghost use Rattle.elf_format.specs.Fault.{fault, any_fault};
+ghost use Rattle.elf_format.specs.Example.{small_object, small_object32};
+
+pub fn small_object_is_well_formed()
+    ensures size { length small_object ≡ 489 }
+    ensures fault { fault class64 false small_object ≡ None }
+    ensures count { section_count class64 small_object ≡ 5 }
+    ensures code { section_of_name class64 small_object (codes ".text") ≡ Some 3 }
+    ensures cut_off { fault class64 false (take 488 small_object) ≡ Some SectionTable }
+    ensures other_class { fault class32 false small_object ≡ Some Header }
+{}
+
+pub fn small_object_of_class_32_is_well_formed()
+    ensures size { length small_object32 ≡ 357 }
+    ensures fault { any_fault false small_object32 ≡ None }
+    ensures code { section_of_name class32 small_object32 (codes ".text") ≡ Some 3 }
+    ensures other_class { fault class64 false small_object32 ≡ Some Header }
+    ensures no_class { any_fault false (slice_set small_object32 4 3) ≡ Some Header }
+    ensures other_machine { any_fault false (slice_set small_object 18 40) ≡ Some Machine }
+{}
