@@ -1,6 +1,8 @@
 -- A number at a place, in the other ways in which code and std spell it.
-use Rattle.std.proofs.Common.{◌≡◌, ℕ, ◌+◌, ◌*◌, List, arith}
-use Rattle.std.specs.Prelude.{slice_index}
+use Rattle.std.proofs.Common.{◌≡◌, ℕ, ◌+◌, ◌-◌, ◌*◌, ◌<◌, List, drop, ◌∙◌, arith}
+use Rattle.std.specs.Prelude.{slice_index, slice_range}
+use Rattle.std.specs.Int.{w16, w32, from_le_bytes}
+use Rattle.std.proofs.lemmas.List.{get_or-take, get_or-drop}
 use Rattle.elf_format.specs.Bytes.{le, u16_at, u32_at, u64_at}
 
 at_itself : (at : ℕ) → at + 0 ≡ at
@@ -26,3 +28,15 @@ u64_is_sum bytes at =
     let e6 : at + 4 + 2 ≡ at + 6 = omega arith in
     let e7 : at + 4 + 3 ≡ at + 7 = omega arith in
     rw (at_itself, e4, e5, e6, e7) (omega arith)
+
+-- a byte of a piece is a byte of the whole
+byte_of_piece : (bytes : List ℕ) (at width i : ℕ) → i < width → slice_index (slice_range bytes at (at + width)) i ≡ slice_index bytes (at + i)
+byte_of_piece bytes at width i below = get_or-take (at + width - at) (drop at bytes) i 0 (omega arith) ∙ get_or-drop at bytes i 0
+
+pub u16_is_read : (bytes : List ℕ) (at : ℕ) → u16_at bytes at ≡ from_le_bytes w16 (slice_range bytes at (at + 2))
+unfolding le
+u16_is_read bytes at = rw (byte_of_piece bytes at 2 0 (omega arith), byte_of_piece bytes at 2 1 (omega arith)) (omega arith)
+
+pub u32_is_read : (bytes : List ℕ) (at : ℕ) → u32_at bytes at ≡ from_le_bytes w32 (slice_range bytes at (at + 4))
+unfolding le
+u32_is_read bytes at = rw (byte_of_piece bytes at 4 0 (omega arith), byte_of_piece bytes at 4 1 (omega arith), byte_of_piece bytes at 4 2 (omega arith), byte_of_piece bytes at 4 3 (omega arith)) (omega arith)

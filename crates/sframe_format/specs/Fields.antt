@@ -1,0 +1,49 @@
+-- The 28 bytes of a header (SFrame 2, The SFrame Header), and the signed numbers of a descriptor.
+use Rattle.std.specs.Prelude.{◌≡◌, ◌≢◌, ℕ, ℤ, Result, Ok, Err, List, [], ◌∷◌, ◌++◌, slice_index}
+use Rattle.std.specs.Int.{w8, w16, w32, to_le_bytes, cast_signed, cast_unsigned}
+use Rattle.elf_format.specs.Bytes.{u16_at, u32_at}
+use Rattle.sframe_format.specs.declared.header.Header.{Header}
+use Rattle.sframe_format.specs.declared.header.SframeError.{SframeError}
+use Rattle.sframe_format.specs.declared.header.SframeError.TheVariants.{BadMagicBytes, UnsupportedVersion}
+
+-- the signed number in the four bytes from a place on
+abbrev pub i32_at : List ℕ → ℕ → ℤ
+i32_at bytes at = cast_signed w32 (u32_at bytes at)
+
+-- the bytes of a signed number
+abbrev pub i32_bytes : ℤ → List ℕ
+i32_bytes z = to_le_bytes w32 (cast_unsigned w32 z)
+
+-- the header that the first 28 bytes spell
+abbrev pub header_of : List ℕ → Header
+header_of bytes = record {
+  magic = u16_at bytes 0;
+  version = slice_index bytes 2;
+  flags = slice_index bytes 3;
+  abi_arch = slice_index bytes 4;
+  cfa_fixed_fp_offset = cast_signed w8 (slice_index bytes 5);
+  cfa_fixed_ra_offset = cast_signed w8 (slice_index bytes 6);
+  aux_len = slice_index bytes 7;
+  num_fdes = u32_at bytes 8;
+  num_fres = u32_at bytes 12;
+  fre_len = u32_at bytes 16;
+  fde_start_offset = u32_at bytes 20;
+  fre_start_offset = u32_at bytes 24;
+}
+
+-- the 28 bytes that spell a header
+abbrev pub header_bytes : Header → List ℕ
+header_bytes h =
+    to_le_bytes w16 h.magic
+    ++ (h.version ∷ h.flags ∷ h.abi_arch ∷ cast_unsigned w8 h.cfa_fixed_fp_offset ∷ cast_unsigned w8 h.cfa_fixed_ra_offset ∷ h.aux_len ∷ [])
+    ++ to_le_bytes w32 h.num_fdes
+    ++ to_le_bytes w32 h.num_fres
+    ++ to_le_bytes w32 h.fre_len
+    ++ to_le_bytes w32 h.fde_start_offset
+    ++ to_le_bytes w32 h.fre_start_offset
+
+-- what parsing answers for a header of these fields
+abbrev pub IsParsed : Header → Result Header SframeError → Type 0
+IsParsed h (Ok parsed) = (parsed ≡ h) × (h.magic ≡ 0xdee2) × (h.version ≡ 2)
+IsParsed h (Err (BadMagicBytes value)) = (value ≡ h.magic) × (h.magic ≢ 0xdee2)
+IsParsed h (Err (UnsupportedVersion value)) = (value ≡ h.version) × (h.magic ≡ 0xdee2) × (h.version ≢ 2)

@@ -1,0 +1,57 @@
+-- Laws of sorting.
+use Rattle.std.specs.Prelude.{◌≡◌, ◌≢◌, ℕ, ◌<◌, List, [], ◌∷◌, Some, None}
+use Rattle.std.specs.List.{All}
+use Rattle.elf_format.specs.declared.index.Span.{Span}
+use Rattle.sframe_format.specs.declared.fault.SframeOutcome.{SframeOutcome}
+use Rattle.sframe_format.specs.declared.fault.SframeOutcome.TheVariants.{Sorted, NoDescriptors, OtherVersion}
+use Rattle.sframe_format.specs.declared.fault.SframeFault.{SframeFault}
+use Rattle.sframe_format.specs.declared.fault.SframeFault.TheVariants.{NoMemory}
+use Rattle.sframe_format.specs.Contribution.{header, read_ones, other_version}
+use Rattle.sframe_format.specs.Valid.{IsValid, HasCause}
+use Rattle.sframe_format.specs.Sorted.{SortOf}
+
+abbrev pub AreBytes : List ℕ → Type 0
+AreBytes xs = All (λ b. b < 256) xs
+
+-- the used bytes of a sorted section
+abbrev pub used_span : ℕ → Span
+used_span used = record { start = 0; stop = used }
+
+-- a valid section that is sorted, also where some of its contributions have relative starts and others absolute ones, stays as it is when it is sorted again by its used bytes
+abbrev pub StaysSorted : Type 0
+StaysSorted = (s t : List ℕ) (rs : List Span) (used : ℕ) → AreBytes s → IsValid s rs → SortOf s rs t (Sorted used) → SortOf t (used_span used ∷ []) t (Sorted used)
+
+-- and it is valid
+abbrev pub StaysValid : Type 0
+StaysValid = (s t : List ℕ) (rs : List Span) (used : ℕ) → AreBytes s → IsValid s rs → SortOf s rs t (Sorted used) → IsValid t (used_span used ∷ [])
+
+-- sorting gives these bytes and this outcome, and nothing else
+abbrev pub IsOnlySort : List ℕ → List Span → List ℕ → SframeOutcome → Type 0
+IsOnlySort s rs bytes outcome = (others : List ℕ) (end : SframeOutcome) → SortOf s rs others end → (others ≡ bytes) × (end ≡ outcome)
+
+-- a section and its ranges are sorted in one way
+abbrev pub SortsInOneWay : Type 0
+SortsInOneWay = (s : List ℕ) (rs : List Span) (bytes : List ℕ) (outcome : SframeOutcome) → SortOf s rs bytes outcome → IsOnlySort s rs bytes outcome
+
+-- every section and ranges have a sort, also where they are not valid
+abbrev pub EachHasSort : Type 0
+EachHasSort = (s : List ℕ) (rs : List Span) → (bytes : List ℕ) × (outcome : SframeOutcome) × SortOf s rs bytes outcome
+
+-- every contribution is of version 2, and none has a descriptor
+abbrev pub HasNoDescriptors : List ℕ → List Span → Type 0
+HasNoDescriptors s rs = (other_version s rs ≡ None) × All (λ c. (header c).num_fdes ≡ 0) (read_ones s rs)
+
+-- the outcome is another version exactly where a contribution has one, and no descriptors exactly where there are none
+abbrev pub OutcomesAreExact : Type 0
+OutcomesAreExact = (s : List ℕ) (rs : List Span) (bytes : List ℕ) (outcome : SframeOutcome) → SortOf s rs bytes outcome
+    → ((v : ℕ) → (outcome ≡ OtherVersion v → other_version s rs ≡ Some v) × (other_version s rs ≡ Some v → outcome ≡ OtherVersion v))
+    × (outcome ≡ NoDescriptors → HasNoDescriptors s rs)
+    × (HasNoDescriptors s rs → outcome ≡ NoDescriptors)
+
+-- a valid section is refused for want of memory alone
+abbrev pub IsRefusedOnlyForMemory : Type 0
+IsRefusedOnlyForMemory = (s : List ℕ) (rs : List Span) (e : SframeFault) → IsValid s rs → HasCause s rs e → e ≡ NoMemory
+
+-- a section and its ranges have one cause of a refusal, want of memory aside
+abbrev pub HasOneCause : Type 0
+HasOneCause = (s : List ℕ) (rs : List Span) (e f : SframeFault) → e ≢ NoMemory → f ≢ NoMemory → HasCause s rs e → HasCause s rs f → e ≡ f
