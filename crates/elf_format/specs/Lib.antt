@@ -1,4 +1,5 @@
 pub mod Bytes
+pub mod Span
 pub mod Class
 pub mod Table
 pub mod Architecture

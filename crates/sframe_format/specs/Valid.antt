@@ -1,8 +1,9 @@
 -- Which sections and ranges can be sorted, and the first thing wrong with the others.
-use Rattle.std.specs.Prelude.{◌≡◌, ⊤, ℕ, ℤ, pos, negsuc, ◌+◌, ◌-◌, ◌*◌, ◌^◌, ◌<◌, ◌≤◌, Bool, not, ◌&&◌, ◌==◌, nat_lt, nat_le, List, [], ◌∷◌, length, find, position, Option, Some, None, if◌then◌else◌, FitsSigned, slice_get}
+use Rattle.std.specs.Prelude.{◌≡◌, ⊤, ℕ, ℤ, pos, negsuc, ◌+◌, ◌-◌, ◌*◌, ◌^◌, ◌<◌, ◌≤◌, Bool, not, ◌==◌, nat_lt, List, [], ◌∷◌, length, find, position, Option, Some, None, if◌then◌else◌, FitsSigned, slice_get}
 use Rattle.std.specs.List.{All, range_with_len}
 use Rattle.std.specs.Int.{w32}
 use Rattle.elf_format.specs.declared.index.Span.{Span}
+use Rattle.elf_format.specs.Span.{AreInside, is_inside}
 use Rattle.sframe_format.specs.declared.fault.SframeFault.{SframeFault}
 use Rattle.sframe_format.specs.declared.fault.SframeFault.TheVariants as faults
 use Rattle.sframe_format.specs.declared.fault.TruncatedKind.TheVariants.{FdeArray, FreStart, FreOffset}
@@ -10,11 +11,6 @@ use Rattle.sframe_format.specs.declared.fault.LargeKind.TheVariants.{Section, Me
 use Rattle.sframe_format.specs.Contribution.{Contribution, Function, header, descriptors_start, rows_start, descriptor_at, row_offset, read_ones, other_version, functions}
 use Rattle.sframe_format.specs.Order.{InOrder}
 use Rattle.sframe_format.specs.Merged.{used_len, row_count, merged_starts}
-
--- the range lies in a section of n bytes
-pub record IsInside (n : ℕ) (r : Span) : Type 0 where
-  pub ordered : r.start ≤ r.stop
-  pub below : r.stop ≤ n
 
 -- magic, descriptors and rows of a contribution lie where they should
 pub record IsSound (c : Contribution) : Type 0 where
@@ -41,9 +37,6 @@ pub record HasRoom (s : List ℕ) (c : Contribution) (cs : List Contribution) (g
 
 abbrev pub StartsFit : Contribution → List Contribution → List Function → Type 0
 StartsFit c cs gs = All (FitsSigned w32) (merged_starts c cs gs)
-
-abbrev pub AreInside : ℕ → List Span → Type 0
-AreInside n rs = All (IsInside n) rs
 
 abbrev pub AreSound : List Contribution → Type 0
 AreSound cs = All IsSound cs
@@ -77,9 +70,6 @@ fault_of c =
 abbrev pub first_fault : List Contribution → Option SframeFault
 first_fault [] = None
 first_fault (c ∷ cs) = or_else (fault_of c) (first_fault cs)
-
-abbrev pub is_inside : ℕ → Span → Bool
-is_inside n r = nat_le r.start r.stop && nat_le r.stop n
 
 abbrev pub fits_i32 : ℤ → Bool
 fits_i32 (pos n) = nat_lt n (2 ^ 31)

@@ -11,7 +11,8 @@ use Rattle.sframe_format.specs.declared.fault.TruncatedKind.TheVariants.{FdeArra
 use Rattle.sframe_format.specs.declared.fault.LargeKind.TheVariants as kinds
 use Rattle.sframe_format.specs.Contribution.{Contribution, Function, header, descriptors_start, rows_start, row_offset, read_ones, other_version, functions}
 use Rattle.sframe_format.specs.Order.{InOrder}
-use Rattle.sframe_format.specs.Valid.{IsInside, AreInside, IsSound, AreSound, is_inside, offset_fault, fault_of, first_fault, or_else, IsReadable, IsValid, IsMergeOf, HasRoom, StartsFit, HasCause}
+use Rattle.sframe_format.specs.Valid.{IsSound, AreSound, offset_fault, fault_of, first_fault, or_else, IsReadable, IsValid, IsMergeOf, HasRoom, StartsFit, HasCause}
+use Rattle.elf_format.specs.Span.{IsInside, AreInside, is_inside}
 use Rattle.sframe_format.specs.Sorted.{SortOf}
 use Rattle.sframe_order.specs.declared.plan.Plan.{Plan}
 use Rattle.sframe_order.specs.declared.plan.Plan.TheVariants.{Keep, Write}

@@ -13,7 +13,8 @@ use Rattle.sframe_format.specs.declared.fault.LargeKind.TheVariants as kinds
 use Rattle.sframe_format.specs.Contribution.{Contribution, Function, read_ones, functions}
 use Rattle.sframe_format.specs.Merged.{used_len, row_count, merged_starts}
 use Rattle.sframe_format.specs.Order.{InOrder}
-use Rattle.sframe_format.specs.Valid.{IsInside, AreInside, is_inside, IsReadable, IsMergeOf, HasCause, first_fault, or_else, fits_i32}
+use Rattle.sframe_format.specs.Valid.{IsReadable, IsMergeOf, HasCause, first_fault, or_else, fits_i32}
+use Rattle.elf_format.specs.Span.{IsInside, AreInside, is_inside}
 use Rattle.sframe_order.proofs.OneOrder.{InOrder-unique}
 use Rattle.sframe_order.proofs.OneResult.{inside_passes, no_first_fault}
 use Rattle.sframe_order.proofs.Ordered.{order, order_is}

@@ -15,7 +15,8 @@ use Rattle.sframe_format.specs.declared.fault.SframeFault.TheVariants as faults
 use Rattle.sframe_format.specs.declared.fault.LargeKind.TheVariants as kinds
 use Rattle.sframe_format.specs.Contribution.{Contribution, header, rows_start, row_offset, read_ones, other_version, function_at, functions_of, functions}
 use Rattle.sframe_format.specs.Merged.{merged, used_len, row_count, merged_starts}
-use Rattle.sframe_format.specs.Valid.{IsInside, is_inside, IsSound, AreSound, IsValid, HasCause, fault_of, first_fault, or_else, offset_fault, fits_i32}
+use Rattle.sframe_format.specs.Valid.{IsSound, AreSound, IsValid, HasCause, fault_of, first_fault, or_else, offset_fault, fits_i32}
+use Rattle.elf_format.specs.Span.{IsInside, is_inside}
 use Rattle.sframe_format.specs.Sorted.{SortOf, IsMerged}
 use Rattle.sframe_order.specs.Laws.{HasNoDescriptors}
 use Rattle.sframe_order.proofs.Answering.{same_merge, no_merge}

@@ -8,7 +8,8 @@ use Rattle.elf_format.specs.declared.index.Span.{Span}
 use Rattle.sframe_format.specs.Contribution.{Contribution, Function, header, read_ones, functions}
 use Rattle.sframe_format.specs.Order.{InOrder}
 use Rattle.sframe_format.specs.Merged.{merged, merged_flags, merged_starts, used_len, first_place, start_fields, rows_len, row_count}
-use Rattle.sframe_format.specs.Valid.{IsInside, IsSound, AreSound, IsValid, IsMergeOf, HasRoom, StartsFit}
+use Rattle.sframe_format.specs.Valid.{IsSound, AreSound, IsValid, IsMergeOf, HasRoom, StartsFit}
+use Rattle.elf_format.specs.Span.{IsInside}
 use Rattle.sframe_format.specs.Sorted.{IsMerged}
 use Rattle.sframe_order.proofs.Again.{before}
 use Rattle.sframe_order.proofs.Answering.{same_merge}
