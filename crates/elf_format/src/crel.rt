@@ -25,7 +25,7 @@ impl From<CursorError> for CrelError {
     }
 }
 
-/// A record of a CREL list.
+/// A relocation: the place that it changes, the symbol (0 is none), its kind and its addend.
 #[derive(Clone, Copy, Debug, PartialEq, Eq)]
 pub struct Crel {
     pub offset: u64,

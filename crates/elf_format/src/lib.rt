@@ -17,6 +17,9 @@ pub use crel::{Crel, CrelError};
 pub use crel_examples::{small_lists, small_numbers};
 pub use cursor::CursorError;
 pub use error::ElfError;
-pub use examples::{small_object_is_well_formed, small_object_of_class_32_is_well_formed};
+pub use examples::{
+    small_object_is_well_formed, small_object_of_class_32_is_well_formed,
+    symbols_and_versions_are_found,
+};
 pub use index::{SectionIndex, Span, SymbolIndex};
 pub use laws::{lists_are_read_again, no_number_is_shorter, numbers_are_read_again};
