@@ -36,7 +36,8 @@ fn has_strings<'a, C: ElfClass>(
         return true;
     }
     match headers.get(link as usize) {
-        Some(strings) => strings.sh_type() == SHT_STRTAB && bytes_of_section(bytes, &strings).is_some(),
+        Some(strings) => strings.sh_type() == SHT_STRTAB
+            && bytes_of_section(bytes, &strings).is_some(),
         None => false,
     }
 }

@@ -40,13 +40,22 @@ fn the_sections_of_an_object(rt: HostRuntime) {
         (4, ".shstrtab", 49),
     ] {
         let found = file.section_name(SectionIndex(index));
-        assert!(rt; matches!(found, Ok(bytes) if bytes == name.as_bytes()), "{name}");
+        assert!(rt;
+            matches!(found, Ok(bytes) if bytes == name.as_bytes()),
+            "{name}"
+        );
         let Ok(header) = file.section(SectionIndex(index)) else {
             return assert!(rt; false);
         };
-        assert!(rt; matches!(file.section_data(&header), Ok(bytes) if bytes.len() == size), "{name}");
+        assert!(rt;
+            matches!(file.section_data(&header), Ok(bytes) if bytes.len() == size),
+            "{name}"
+        );
         let first = file.section_by_name(name);
-        assert!(rt; matches!(first, Some((place, _)) if place == SectionIndex(index)), "{name}");
+        assert!(rt;
+            matches!(first, Some((place, _)) if place == SectionIndex(index)),
+            "{name}"
+        );
     }
     assert!(rt; file.section_by_name(".bss").is_none());
     assert!(rt; file.section_name(SectionIndex(5)) == Err(ElfError::SectionTable));

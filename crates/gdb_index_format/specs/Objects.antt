@@ -1,8 +1,9 @@
 -- The units and the sets of names that the bytes of an object hold.
-use Rattle.std.specs.Prelude.{◌≡◌, ℕ, Bool, false, ◌||◌, ◌&&◌, ◌==◌, ◌/◌, ◌%◌, List, [], ◌∷◌, ◌++◌, Option, Some, None, option_map, option_and_then, find, slice_get, codes}
+use Rattle.std.specs.Prelude.{◌≡◌, ℕ, Bool, false, ◌||◌, ◌&&◌, ◌==◌, List, [], ◌∷◌, ◌++◌, Option, Some, None, option_map, option_and_then, find, slice_get, codes}
 use Rattle.std.specs.List.{filter, enumerate_from}
 use Rattle.elf_format.specs.Bytes.{get}
 use Rattle.elf_format.specs.Class.{Class, sh_flags}
+use Rattle.elf_format.specs.Flags.{has_flag, shf_compressed}
 use Rattle.elf_format.specs.Section.{sections, section_bytes, section_name, section_of_name, is_name}
 use Rattle.gdb_index_format.specs.declared.unit.CuBoundary.{CuBoundary}
 use Rattle.gdb_index_format.specs.Units.{IsUnitList}
@@ -77,20 +78,6 @@ AreObjectsOf c (file ∷ files) (o ∷ os) = IsObjectOf c file o × AreObjectsOf
 pub record ObjectsAreOne : Type 0 where
   pub one_object : (c : Class) (file : List ℕ) (o p : Object) → IsObjectOf c file o → IsObjectOf c file p → o ≡ p
   pub one_list : (c : Class) (files : List (List ℕ)) (os ps : List Object) → AreObjectsOf c files os → AreObjectsOf c files ps → os ≡ ps
-
--- whether flags hold a flag of one bit
-abbrev pub has_flag : ℕ → ℕ → Bool
-has_flag flags flag = flags / flag % 2 == 1
-
--- flags of a section (gABI, Section Attribute Flags)
-abbrev pub shf_alloc : ℕ
-shf_alloc = 2
-
-abbrev pub shf_execinstr : ℕ
-shf_execinstr = 4
-
-abbrev pub shf_compressed : ℕ
-shf_compressed = 0x800
 
 abbrev pub is_index : ℕ → Option ℕ → Bool
 is_index index None = false

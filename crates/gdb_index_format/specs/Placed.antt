@@ -3,11 +3,11 @@ use Rattle.std.specs.Prelude.{ℕ, Bool, false, true, ◌&&◌, nat_lt, List, []
 use Rattle.std.specs.List.{filter}
 use Rattle.elf_format.specs.Bytes.{get}
 use Rattle.elf_format.specs.Class.{Class, sh_flags}
+use Rattle.elf_format.specs.Flags.{has_flag, shf_alloc, shf_execinstr}
 use Rattle.elf_format.specs.Section.{sections}
 use Rattle.gdb_index_format.specs.declared.unit.CuBoundary.{CuBoundary}
 use Rattle.gdb_index_format.specs.declared.placement.Placement.{Placement}
 use Rattle.gdb_index_format.specs.Published.{Object}
-use Rattle.gdb_index_format.specs.Objects.{has_flag, shf_alloc, shf_execinstr}
 
 -- whether a section is there and holds code that is loaded
 abbrev pub is_code : Class → Option (List ℕ) → Bool
