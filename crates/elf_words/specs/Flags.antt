@@ -1,4 +1,4 @@
--- Flags of sections (gABI, Section Attribute Flags).
+-- Flags of sections (gABI, Section Attribute Flags; GNU_RETAIN of the GNU tools).
 use Rattle.std.specs.Prelude.{ℕ, Bool, not, ◌==◌}
 use Rattle.std.specs.Int.Bits.{bit_and}
 
@@ -6,5 +6,32 @@ use Rattle.std.specs.Int.Bits.{bit_and}
 abbrev pub has_flag : ℕ → ℕ → Bool
 has_flag flag flags = not (bit_and flags flag == 0)
 
+abbrev pub shf_write : ℕ
+shf_write = 0x1
+
+abbrev pub shf_alloc : ℕ
+shf_alloc = 0x2
+
+abbrev pub shf_execinstr : ℕ
+shf_execinstr = 0x4
+
+abbrev pub shf_merge : ℕ
+shf_merge = 0x10
+
+abbrev pub shf_strings : ℕ
+shf_strings = 0x20
+
+abbrev pub shf_group : ℕ
+shf_group = 0x200
+
+abbrev pub shf_tls : ℕ
+shf_tls = 0x400
+
 abbrev pub shf_compressed : ℕ
 shf_compressed = 0x800
+
+abbrev pub shf_gnu_retain : ℕ
+shf_gnu_retain = 0x200000
+
+abbrev pub shf_exclude : ℕ
+shf_exclude = 0x80000000

@@ -1,1 +1,2 @@
+pub mod Align
 pub mod Flags
