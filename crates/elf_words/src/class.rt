@@ -1,16 +1,24 @@
-//! The two classes of ELF files (gABI, Data Representation): each names the types of its records, and laws
-//! tie every type to the class's table of sizes and places.
+//! The two classes of ELF files (gABI, Data Representation): each names the types of its records and their
+//! sizes, and laws tie every type and every constant to the class's table of sizes and places. Sizes and
+//! alignments count bytes.
 
 ghost use Rattle.std.specs.Prelude.{◌≡◌, ℕ};
-ghost use Rattle.elf_format.specs.Class.{Class, class_byte, file_header_size, section_header_size, symbol_size};
+ghost use Rattle.elf_format.specs.Class.{Class, class_byte, word_at, file_header_size, program_header_size, section_header_size, compression_header_size, symbol_size, dyn_size, rela_size, relr_size};
+ghost use Rattle.elf_format.specs.Table.{note_header_size};
 
+use crate::compression::CompressionFields;
+use crate::dynamic::DynFields;
 use crate::file_header::FileHeaderFields;
+use crate::program_header::ProgramHeaderFields;
 use crate::record::Record;
+use crate::rela::RelaFields;
+use crate::relr::RelrFields;
 use crate::section_header::SectionHeaderFields;
 use crate::sym::SymFields;
+use crate::word::ElfWord;
 
-/// A class of ELF files, by its records.
-pub trait ElfClass {
+/// A class of ELF files, by its records and their sizes.
+pub trait ElfClass: Copy {
     ghost class: { Class };
 
     ghost CLASS_BYTE: { ℕ };
@@ -18,26 +26,215 @@ pub trait ElfClass {
     /// The byte of a file's identification that names the class.
     const CLASS_BYTE: u8;
 
+    /// The class's word: as wide as an address.
+    type Word: ElfWord;
+
     /// The header of a file.
     type FileHeader: FileHeaderFields;
+
+    /// The header of a segment.
+    type ProgramHeader: ProgramHeaderFields;
 
     /// The header of a section.
     type SectionHeader: SectionHeaderFields;
 
+    /// The header in front of a compressed section's bytes.
+    type CompressionHeader: CompressionFields;
+
     /// A symbol.
     type Sym: SymFields;
 
+    /// An entry of the dynamic section.
+    type Dyn: DynFields;
+
+    /// A relocation with an addend.
+    type Rela: RelaFields;
+
+    /// A word of a table of relative relocations.
+    type Relr: RelrFields;
+
+    /// The header of a note.
+    type NoteHeader: Record;
+
+    ghost FILE_HEADER_SIZE: { ℕ };
+
+    /// The size of the header of a file.
+    const FILE_HEADER_SIZE: u16;
+
+    ghost PROGRAM_HEADER_SIZE: { ℕ };
+
+    /// The size of the header of a segment.
+    const PROGRAM_HEADER_SIZE: u16;
+
+    ghost SECTION_HEADER_SIZE: { ℕ };
+
+    /// The size of the header of a section.
+    const SECTION_HEADER_SIZE: u16;
+
+    ghost ADDRESS_SIZE: { ℕ };
+
+    /// The size of an address.
+    const ADDRESS_SIZE: u64;
+
+    ghost GOT_ENTRY_SIZE: { ℕ };
+
+    /// The size of an entry of the global offset table.
+    const GOT_ENTRY_SIZE: u64;
+
+    ghost RELA_ENTRY_SIZE: { ℕ };
+
+    /// The size of a relocation with an addend.
+    const RELA_ENTRY_SIZE: u64;
+
+    ghost RELR_ENTRY_SIZE: { ℕ };
+
+    /// The size of a word of a table of relative relocations.
+    const RELR_ENTRY_SIZE: u64;
+
+    ghost SYMTAB_ENTRY_SIZE: { ℕ };
+
+    /// The size of a symbol.
+    const SYMTAB_ENTRY_SIZE: u64;
+
+    ghost DYNAMIC_ENTRY_SIZE: { ℕ };
+
+    /// The size of an entry of the dynamic section.
+    const DYNAMIC_ENTRY_SIZE: u64;
+
+    ghost NOTE_HEADER_SIZE: { ℕ };
+
+    /// The size of the header of a note.
+    const NOTE_HEADER_SIZE: u64;
+
+    ghost GNU_HASH_BLOOM_SIZE: { ℕ };
+
+    /// The size of a word of the filter of a GNU hash table.
+    const GNU_HASH_BLOOM_SIZE: u64;
+
+    ghost ADDRESS_ALIGNMENT: { ℕ };
+
+    /// The alignment of an address.
+    const ADDRESS_ALIGNMENT: u64;
+
+    ghost PROGRAM_HEADER_ALIGNMENT: { ℕ };
+
+    /// The alignment of the headers of segments.
+    const PROGRAM_HEADER_ALIGNMENT: u64;
+
+    ghost SECTION_HEADER_ALIGNMENT: { ℕ };
+
+    /// The alignment of the headers of sections.
+    const SECTION_HEADER_ALIGNMENT: u64;
+
+    ghost GOT_ENTRY_ALIGNMENT: { ℕ };
+
+    /// The alignment of the global offset table.
+    const GOT_ENTRY_ALIGNMENT: u64;
+
+    ghost RELA_ENTRY_ALIGNMENT: { ℕ };
+
+    /// The alignment of relocations with addends.
+    const RELA_ENTRY_ALIGNMENT: u64;
+
+    ghost RELR_ENTRY_ALIGNMENT: { ℕ };
+
+    /// The alignment of relative relocations.
+    const RELR_ENTRY_ALIGNMENT: u64;
+
+    ghost GNU_HASH_ALIGNMENT: { ℕ };
+
+    /// The alignment of a GNU hash table.
+    const GNU_HASH_ALIGNMENT: u64;
+
+    ghost SYMTAB_ENTRY_ALIGNMENT: { ℕ };
+
+    /// The alignment of symbols.
+    const SYMTAB_ENTRY_ALIGNMENT: u64;
+
+    ghost VERSION_D_ALIGNMENT: { ℕ };
+
+    /// The alignment of version definitions.
+    const VERSION_D_ALIGNMENT: u64;
+
+    ghost VERSION_R_ALIGNMENT: { ℕ };
+
+    /// The alignment of the versions needed.
+    const VERSION_R_ALIGNMENT: u64;
+
+    ghost GNU_PROPERTY_ALIGNMENT: { ℕ };
+
+    /// The alignment of program properties.
+    const GNU_PROPERTY_ALIGNMENT: u64;
+
     ghost class_byte_is: { CLASS_BYTE ≡ class_byte Self.FileHeader.class };
+
+    ghost word_is: { Self.Word.BYTES ≡ (word_at class 0 0).width };
 
     ghost file_header_class: { Self.FileHeader.class ≡ class };
 
     ghost file_header_size_is: { Self.FileHeader.SIZE ≡ file_header_size class };
 
+    ghost program_header_class: { Self.ProgramHeader.class ≡ class };
+
+    ghost program_header_size_is: { Self.ProgramHeader.SIZE ≡ program_header_size class };
+
     ghost section_header_class: { Self.SectionHeader.class ≡ class };
 
     ghost section_header_size_is: { Self.SectionHeader.SIZE ≡ section_header_size class };
 
+    ghost compression_header_class: { Self.CompressionHeader.class ≡ class };
+
+    ghost compression_header_size_is: { Self.CompressionHeader.SIZE ≡ compression_header_size class };
+
     ghost symbol_class: { Self.Sym.class ≡ class };
 
     ghost symbol_size_is: { Self.Sym.SIZE ≡ symbol_size class };
+
+    ghost dyn_class: { Self.Dyn.class ≡ class };
+
+    ghost dyn_size_is: { Self.Dyn.SIZE ≡ dyn_size class };
+
+    ghost rela_class: { Self.Rela.class ≡ class };
+
+    ghost rela_size_is: { Self.Rela.SIZE ≡ rela_size class };
+
+    ghost relr_class: { Self.Relr.class ≡ class };
+
+    ghost relr_size_is: { Self.Relr.SIZE ≡ relr_size class };
+
+    ghost note_header_size_is: { Self.NoteHeader.SIZE ≡ note_header_size };
+
+    ghost sizes_are: {
+        (FILE_HEADER_SIZE ≡ Self.FileHeader.SIZE)
+        × (PROGRAM_HEADER_SIZE ≡ Self.ProgramHeader.SIZE)
+        × (SECTION_HEADER_SIZE ≡ Self.SectionHeader.SIZE)
+        × (ADDRESS_SIZE ≡ Self.Word.BYTES)
+        × (GOT_ENTRY_SIZE ≡ Self.Word.BYTES)
+        × (RELA_ENTRY_SIZE ≡ Self.Rela.SIZE)
+        × (RELR_ENTRY_SIZE ≡ Self.Relr.SIZE)
+        × (SYMTAB_ENTRY_SIZE ≡ Self.Sym.SIZE)
+        × (DYNAMIC_ENTRY_SIZE ≡ Self.Dyn.SIZE)
+        × (NOTE_HEADER_SIZE ≡ Self.NoteHeader.SIZE)
+        × (GNU_HASH_BLOOM_SIZE ≡ Self.Word.BYTES)
+    };
+
+    ghost alignments_are: {
+        (ADDRESS_ALIGNMENT ≡ Self.Word.BYTES)
+        × (PROGRAM_HEADER_ALIGNMENT ≡ Self.Word.BYTES)
+        × (SECTION_HEADER_ALIGNMENT ≡ Self.Word.BYTES)
+        × (GOT_ENTRY_ALIGNMENT ≡ Self.Word.BYTES)
+        × (RELA_ENTRY_ALIGNMENT ≡ Self.Word.BYTES)
+        × (RELR_ENTRY_ALIGNMENT ≡ Self.Word.BYTES)
+        × (GNU_HASH_ALIGNMENT ≡ Self.Word.BYTES)
+        × (SYMTAB_ENTRY_ALIGNMENT ≡ Self.Word.BYTES)
+        × (VERSION_D_ALIGNMENT ≡ Self.Word.BYTES)
+        × (VERSION_R_ALIGNMENT ≡ Self.Word.BYTES)
+        × (GNU_PROPERTY_ALIGNMENT ≡ Self.Word.BYTES)
+    };
+}
+
+/// A symbol that names its class.
+pub trait ElfSymbol {
+    /// The class of the symbol.
+    type Class: ElfClass;
 }

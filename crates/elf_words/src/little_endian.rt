@@ -48,3 +48,19 @@ pub fn read_u64(bytes: &[u8], at: usize) -> u64
         bytes[at + 7],
     ])
 }
+
+/// The number in the first four bytes: there have to be four at least.
+pub fn u32_from_slice(bytes: &[u8]) -> u32
+    requires { 4 ≤ length bytes.now }
+    ensures { result ≡ le bytes.now 0 4 }
+{
+    read_u32(bytes, 0)
+}
+
+/// The number in the first eight bytes: there have to be eight at least.
+pub fn u64_from_slice(bytes: &[u8]) -> u64
+    requires { 8 ≤ length bytes.now }
+    ensures { result ≡ le bytes.now 0 8 }
+{
+    read_u64(bytes, 0)
+}

@@ -1,5 +1,6 @@
-//! The types of sections (gABI, Sections; GNU symbol versioning), and the section indexes that have a
-//! meaning of their own (gABI, Special Section Indexes).
+//! The types of sections (gABI, Sections; GNU symbol versioning; RISC-V and CREL).
+
+ghost use Rattle.std.specs.Prelude.{◌≡◌, ◌==◌};
 
 /// An unused section header.
 pub const SHT_NULL: u32 = 0;
@@ -36,7 +37,36 @@ pub const SHT_GNU_VERSYM: u32 = 0x6fff_ffff;
 /// The attributes of a RISC-V object.
 pub const SHT_RISCV_ATTRIBUTES: u32 = 0x7000_0003;
 
-/// The first section index that has a meaning of its own.
-pub const SHN_LORESERVE: u16 = 0xff00;
-/// The index does not fit the field, and stands elsewhere.
-pub const SHN_XINDEX: u16 = 0xffff;
+/// The type of a section.
+#[derive(Debug, Clone, Copy, Default, PartialEq, Eq, PartialOrd, Ord)]
+pub struct SectionType(pub u32);
+
+impl SectionType {
+    /// Whether the section holds relocations with addends.
+    pub fn is_rela(self) -> bool
+        ensures { result ≡ (self.0 == 4) }
+    {
+        self.0 == SHT_RELA
+    }
+
+    /// Whether the section holds relocations without addends.
+    pub fn is_rel(self) -> bool
+        ensures { result ≡ (self.0 == 9) }
+    {
+        self.0 == SHT_REL
+    }
+
+    /// Whether the section holds the symbols of an object.
+    pub fn is_symtab(self) -> bool
+        ensures { result ≡ (self.0 == 2) }
+    {
+        self.0 == SHT_SYMTAB
+    }
+
+    /// Whether the section holds strings.
+    pub fn is_strtab(self) -> bool
+        ensures { result ≡ (self.0 == 3) }
+    {
+        self.0 == SHT_STRTAB
+    }
+}
