@@ -17,3 +17,5 @@ pub mod Headline
 pub mod Indexes
 pub mod Rooms
 pub mod LawLemmas
+pub mod RowLemmas
+pub mod FirstZero

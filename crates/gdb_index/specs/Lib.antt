@@ -9,3 +9,4 @@ pub mod Vector
 pub mod Lookup
 pub mod Writes
 pub mod Laws
+pub mod Rows

@@ -4,6 +4,7 @@
 //! written index looks like by those of this crate's `specs/`.
 #![tactic(auto)]
 
+mod examples;
 mod fill;
 mod hash;
 mod laws;
@@ -18,6 +19,7 @@ mod version;
 mod writer;
 mod writing;
 
+pub use examples::absent_name_takes_three_looks;
 pub use gdb_index_format::{AddressEntry, BadIndex, CuBoundary, NameWords};
 pub use hash::{compute_hash_table_slots, encode_cu_vector_entry, gdb_hash};
 pub use laws::{hash_ignores_case, indexes_are_one, slots_exceed_names};
@@ -28,3 +30,6 @@ pub use steps::Steps;
 pub use vector::CuVector;
 pub use version::INDEX_VERSION;
 pub use writer::write_gdb_index;
+
+#[cfg(test)]
+mod tests;

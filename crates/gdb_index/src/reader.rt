@@ -15,6 +15,7 @@ use crate::vector::CuVector;
 use crate::version::{HEADER_LEN, INDEX_VERSION};
 use elf_words::read_u32;
 use gdb_index_format::BadIndex;
+use memchr::memchr;
 use std::sync::ledger::Ledger;
 
 /// Where the parts of an index are that a probe reads.
@@ -78,10 +79,11 @@ fn name_from(index: &[u8], at: usize) -> Option<&[u8]>
     Some(&tail[..len])
 }
 
+/// The place of the first zero byte.
 fn first_zero(bytes: &[u8]) -> Option<usize>
     ensures { result ≡ position (λ byte. byte == 0) bytes.now }
 {
-    bytes.iter().position(|byte| *byte == 0)
+    memchr(0, bytes)
 }
 
 /// The vector at a place.
