@@ -51,7 +51,7 @@ impl<'a> GdbIndexScanResult<'a> {
         }
     }
 
-    /// The units of all objects, in input order. Each begins where those before it end.
+    /// The units of all objects, in input order.
     pub fn units(&self) -> &[CuBoundary]
         ensures units { result.now ≡ self.now.units }
         ensures sound { IsSound self.now }
