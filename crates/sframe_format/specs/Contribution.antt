@@ -1,5 +1,5 @@
 -- What the ranges contribute: headers, descriptors and rows.
-use Rattle.std.specs.Prelude.{ℕ, ℤ, pos, ◌+ℤ◌, ◌+◌, ◌-◌, ◌*◌, Bool, not, ◌&&◌, ◌==◌, nat_lt, nat_le, List, length, map, filter, take_while, find, fold, min, Option, if◌then◌else◌, slice_range, bit_and}
+use Rattle.std.specs.Prelude.{ℕ, ℤ, pos, ◌+ℤ◌, ◌+◌, ◌-◌, ◌*◌, Bool, not, ◌&&◌, ◌==◌, nat_lt, nat_le, List, length, map, filter, take_while, find, fold, min, Option, if◌then◌else◌, slice_range}
 use Rattle.std.specs.List.{flat_map, range_with_len}
 use Rattle.std.specs.Option.{option_map}
 use Rattle.sframe_format.specs.declared.header.Header.{Header}
