@@ -1,0 +1,72 @@
+-- A header whose offsets are in order, with a table of none or a power of two of slots, is sound.
+use Rattle.std.proofs.Common.{◌≡◌, ◌⊎◌, ℕ, zero, suc, ◌+◌, ◌-◌, ◌*◌, ◌/◌, ◌%◌, ◌^◌, ◌≤◌, Bool, true, false, cond, eqb, leb, List, length, Some, None, refl, ap, ◌∙◌, arith, inl, inr}
+use Rattle.std.specs.Prelude.{◌&&◌, ◌||◌, not}
+use Rattle.std.specs.Int.{IsPowerOfTwo, is_power_of_two}
+use Rattle.std.specs.Int.Count.{ones, ones_step}
+use Rattle.std.proofs.Math.Nat.{pow-suc}
+use Rattle.std.proofs.lemmas.Bool.{and_from, or_right, or_left, eq-eqb, le-leb}
+use Rattle.elf_format.specs.Bytes.{u32_at}
+use Rattle.gdb_index_format.specs.declared.bad_index.BadIndex.TheVariants.{Version, Offsets, Slots}
+use Rattle.gdb_index_format.specs.Probe.{fault_of, are_in_order, is_table, pool_at, slot_count}
+
+ones_of_one : ones 1 ≡ 1
+unfolding ones
+ones_of_one = refl
+
+ones_of_power : (k : ℕ) → ones (2 ^ k) ≡ 1
+ones_of_power zero = ones_of_one
+ones_of_power (suc k) =
+    let even : 2 ^ suc k % 2 ≡ 0 = omega (arith, pow-suc 2 k) in
+    let half : 2 ^ suc k / 2 ≡ 2 ^ k = omega (arith, pow-suc 2 k) in
+    omega (arith, ones_step (2 ^ suc k), even, ap ones half, ones_of_power k)
+
+power_passes : (m : ℕ) → IsPowerOfTwo m → is_power_of_two m ≡ true
+power_passes m (k, is) = eq-eqb (ones m) 1 (ap ones is ∙ ones_of_power k)
+
+-- the header's words, and what they must satisfy
+pub record IsHeader (b : List ℕ) (units types addresses table shortcuts pool : ℕ) : Type 0 where
+  pub version : u32_at b 0 ≡ 9
+  pub o1 : u32_at b 4 ≡ units
+  pub o2 : u32_at b 8 ≡ types
+  pub o3 : u32_at b 12 ≡ addresses
+  pub o4 : u32_at b 16 ≡ table
+  pub o5 : u32_at b 20 ≡ shortcuts
+  pub o6 : u32_at b 24 ≡ pool
+  pub begins : 28 ≤ units
+  pub first : units ≤ types
+  pub second : types ≤ addresses
+  pub third : addresses ≤ table
+  pub fourth : table ≤ shortcuts
+  pub fifth : shortcuts ≤ pool
+  pub ends : pool ≤ length b
+
+pub is_sound : (b : List ℕ) (units types addresses table shortcuts pool slots : ℕ) → IsHeader b units types addresses table shortcuts pool → shortcuts ≡ table + 8 * slots → (slots ≡ 0) ⊎ IsPowerOfTwo slots → fault_of b ≡ None
+unfolding fault_of are_in_order is_table slot_count pool_at
+is_sound b units types addresses table shortcuts pool slots h whole power =
+    let known : eqb (u32_at b 0) 9 ≡ true = eq-eqb (u32_at b 0) 9 h.version in
+    let a = le-leb 28 (u32_at b 4) (omega (arith, h.o1, h.begins)) in
+    let b2 = le-leb (u32_at b 4) (u32_at b 8) (omega (arith, h.o1, h.o2, h.first)) in
+    let b3 = le-leb (u32_at b 8) (u32_at b 12) (omega (arith, h.o2, h.o3, h.second)) in
+    let b4 = le-leb (u32_at b 12) (u32_at b 16) (omega (arith, h.o3, h.o4, h.third)) in
+    let b5 = le-leb (u32_at b 16) (u32_at b 20) (omega (arith, h.o4, h.o5, h.fourth)) in
+    let b6 = le-leb (u32_at b 20) (u32_at b 24) (omega (arith, h.o5, h.o6, h.fifth)) in
+    let b7 = le-leb (u32_at b 24) (length b) (omega (arith, h.o6, h.ends)) in
+    let order : (leb 28 (u32_at b 4) && leb (u32_at b 4) (u32_at b 8) && leb (u32_at b 8) (u32_at b 12) && leb (u32_at b 12) (u32_at b 16) && leb (u32_at b 16) (u32_at b 20) && leb (u32_at b 20) (u32_at b 24) && leb (u32_at b 24) (length b)) ≡ true =
+    and_from _ _ (and_from _ _ (and_from _ _ (and_from _ _ (and_from _ _ (and_from _ _ a b2) b3) b4) b5) b6) b7 in
+    let size : u32_at b 20 - u32_at b 16 ≡ 8 * slots = omega (arith, h.o4, h.o5, whole) in
+    let eighth : (u32_at b 20 - u32_at b 16) / 8 ≡ slots = omega (arith, size) in
+    let multiple : eqb ((u32_at b 20 - u32_at b 16) % 8) 0 ≡ true = eq-eqb _ 0 (omega (arith, size)) in
+    let some : (eqb slots 0 || is_power_of_two slots) ≡ true = elim power [
+      | inl none ↦ or_left (eqb slots 0) (is_power_of_two slots) (eq-eqb slots 0 none)
+      | inr two ↦ or_right (eqb slots 0) (is_power_of_two slots) (power_passes slots two)
+    ] in
+    let fits : (eqb ((u32_at b 20 - u32_at b 16) % 8) 0 && (eqb ((u32_at b 20 - u32_at b 16) / 8) 0 || is_power_of_two ((u32_at b 20 - u32_at b 16) / 8))) ≡ true =
+    and_from _ _ multiple (ap (λ m. eqb m 0 || is_power_of_two m) eighth ∙ some) in
+    let orders : Bool = leb 28 (u32_at b 4) && leb (u32_at b 4) (u32_at b 8) && leb (u32_at b 8) (u32_at b 12) && leb (u32_at b 12) (u32_at b 16) && leb (u32_at b 16) (u32_at b 20) && leb (u32_at b 20) (u32_at b 24) && leb (u32_at b 24) (length b) in
+    let tables : Bool = eqb ((u32_at b 20 - u32_at b 16) % 8) 0 && (eqb ((u32_at b 20 - u32_at b 16) / 8) 0 || is_power_of_two ((u32_at b 20 - u32_at b 16) / 8)) in
+    chosen (eqb (u32_at b 0) 9) orders tables known order fits where
+      chosen : (x y z : Bool) → x ≡ true → y ≡ true → z ≡ true → cond (not x) (Some Version) (cond (not y) (Some Offsets) (cond (not z) (Some Slots) None)) ≡ None
+      chosen true true true p q r = refl
+      chosen false y z p q r = absurd cc
+      chosen true false z p q r = absurd cc
+      chosen true true false p q r = absurd cc

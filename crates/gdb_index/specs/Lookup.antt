@@ -1,0 +1,21 @@
+-- What a look-up gives, seen as what the probe gives.
+use Rattle.std.specs.Prelude.{◌≡◌, ℕ, ◌+◌, ◌*◌, ◌<◌, ◌≤◌, List, length, None}
+use Rattle.gdb_index_format.specs.Probe as format
+use Rattle.gdb_index.specs.declared.reader.Parts.{Parts}
+use Rattle.gdb_index.specs.declared.reader.Look.{Look}
+use Rattle.gdb_index.specs.declared.reader.Look.TheVariants.{Ends, Passes}
+
+-- a look as the format's look
+abbrev pub seen_look : Look → format.Look
+seen_look (Ends answer) = format.Ends answer
+seen_look Passes = format.Passes
+
+-- the parts that a probe needs
+pub record ArePartsOf (b : List ℕ) (p : Parts) : Type 0 where
+  pub sound : format.fault_of b ≡ None
+  pub table : p.table ≡ format.table_at b
+  pub slots : p.slots ≡ format.slot_count b
+  pub pool : p.pool ≡ format.pool_at b
+  pub table_within : p.table + 8 * p.slots ≤ length b
+  pub pool_within : p.pool < 4294967296
+  pub few : p.slots < 4294967296

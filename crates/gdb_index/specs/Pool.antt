@@ -1,0 +1,24 @@
+-- The constant pool (GDB manual, "Index Section Format"): the vectors of all names, then the names, each
+-- with a zero byte, both in the order of the names.
+use Rattle.std.specs.Prelude.{ℕ, ◌+◌, ◌*◌, List, length, take}
+use Rattle.std.specs.List.{sum_by}
+use Rattle.gdb_index_format.specs.Named.{Named}
+
+abbrev pub vector_len : Named → ℕ
+vector_len n = 4 + 4 * length n.words
+
+abbrev pub name_len : Named → ℕ
+name_len n = length n.name + 1
+
+abbrev pub vectors_len : List Named → ℕ
+vectors_len ns = sum_by vector_len ns
+
+abbrev pub names_len : List Named → ℕ
+names_len ns = sum_by name_len ns
+
+-- where the vector and the bytes of name i begin, counted from the pool
+abbrev pub vector_place : List Named → ℕ → ℕ
+vector_place ns i = vectors_len (take i ns)
+
+abbrev pub name_place : List Named → ℕ → ℕ
+name_place ns i = vectors_len ns + names_len (take i ns)

@@ -1,0 +1,38 @@
+-- What the objects of a program publish, gathered for one index.
+use Rattle.std.specs.Prelude.{◌≡◌, ◌≢◌, ℕ, ◌%◌, ◌^◌, ◌<◌, ◌≤◌, List, [], length, sum}
+use Rattle.std.specs.List.{All, sum_by}
+use Rattle.std.specs.List.Sorted.{IsNonDecreasing}
+use Rattle.gdb_index_format.specs.declared.unit.CuBoundary.{CuBoundary}
+use Rattle.gdb_index_format.specs.Named.{Named, AreDistinct}
+
+-- the units of all objects, the names in pool order with their words, how many sections are placed, and how
+-- many units each object has
+pub record Scan : Type 0 where
+  pub units : List CuBoundary
+  pub names : List Named
+  pub placed : ℕ
+  pub unit_counts : List ℕ
+
+-- the number of the unit that a word names: all of it but the kind and the static bit (GDB manual, "Index
+-- Section Format", the elements of a CU vector)
+abbrev pub unit_number : ℕ → ℕ
+unit_number word = word % 2 ^ 28
+
+-- A name that an index of so many units can hold: no zero byte ends it early, and its words ascend and name
+-- units of the index.
+pub record IsIndexName (count : ℕ) (n : Named) : Type 0 where
+  pub no_zero : All (λ c. c ≢ 0) n.name
+  pub some : n.words ≢ []
+  pub ascending : IsNonDecreasing n.words
+  pub fit : All (λ w. w < 2 ^ 32) n.words
+  pub units : All (λ w. unit_number w < count) n.words
+
+-- What holds of every scan result.
+pub record IsSound (s : Scan) : Type 0 where
+  pub units : length s.units ≤ 2 ^ 24
+  pub counted : sum s.unit_counts ≡ length s.units
+  pub names : All (IsIndexName (length s.units)) s.names
+  pub distinct : AreDistinct s.names
+
+abbrev pub word_count : List Named → ℕ
+word_count ns = sum_by (λ n. length n.words) ns

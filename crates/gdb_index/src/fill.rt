@@ -1,0 +1,33 @@
+//! Fills the hash table of an index with the names, in the order of the pool.
+
+ghost use Rattle.std.specs.Prelude.{◌≡◌, ℕ, ◌+◌, ◌*◌, ◌<◌, ◌≤◌, ◌^◌, length};
+ghost use Rattle.std.specs.Int.{IsPowerOfTwo};
+ghost use Rattle.gdb_index_format.specs.Named.{all_named};
+ghost use Rattle.gdb_index.specs.Table.{zero_table};
+ghost use Rattle.gdb_index.specs.Pool.{vectors_len, names_len};
+ghost use Rattle.gdb_index.specs.Filled.{IsFilledTable};
+
+use crate::hash::gdb_hash;
+use crate::pool::{name_len, vector_len};
+use crate::table::insert_name;
+use gdb_index_format::NameWords;
+
+/// Puts each name into the first slot of its probe that no earlier name holds, in a table of zeros. The
+/// vectors of all names have `vectors` bytes, behind which the names stand.
+pub(crate) fn fill_table(table: &mut [u8], slots: usize, names: &[NameWords<'_>], vectors: u32)
+    requires power { IsPowerOfTwo slots }
+    requires small { slots < 2 ^ 32 }
+    requires room { length names.now < slots }
+    requires empty { table.old ≡ zero_table slots }
+    requires vectors { vectors ≡ vectors_len (all_named names.now) }
+    requires fits { vectors_len (all_named names.now) + names_len (all_named names.now) < 2 ^ 32 }
+    ensures { IsFilledTable table.new slots (all_named names.now) }
+{
+    let mut vector = 0;
+    let mut name = vectors;
+    for named in names {
+        insert_name(table, slots, gdb_hash(named.name), name, vector);
+        vector += vector_len(named);
+        name += name_len(named);
+    }
+}

@@ -1,0 +1,164 @@
+//! Looks a name up in the bytes of an index, by the probe of the format (GDB manual, "Index Section
+//! Format").
+
+ghost use Rattle.std.specs.Prelude.{◌≡◌, ℕ, ◌+◌, ◌*◌, ◌<◌, ◌≤◌, ◌^◌, ◌==◌, length, Some, Err, MatchResult};
+ghost use Rattle.std.specs.List.{position};
+ghost use Rattle.std.specs.Option.{option_copied};
+ghost use Rattle.elf_format.specs.Bytes.{string_at};
+ghost use Rattle.gdb_index_format.specs.Probe.{fault_of, slot_count, vector_at, look_in, probe};
+ghost use Rattle.gdb_index.specs.Lookup.{seen_look, ArePartsOf};
+
+use crate::hash::gdb_hash;
+use crate::steps::Steps;
+use crate::table::slot_at;
+use crate::vector::CuVector;
+use crate::version::{HEADER_LEN, INDEX_VERSION};
+use elf_words::read_u32;
+use gdb_index_format::BadIndex;
+use memchr::memchr;
+use std::sync::ledger::Ledger;
+
+/// Where the parts of an index are that a probe reads.
+#[derive(Clone, Copy, Debug)]
+struct Parts {
+    table: usize,
+    slots: usize,
+    pool: usize,
+}
+
+/// What one look gives.
+#[derive(Drop)]
+enum Look<'a> {
+    /// The end of the probe.
+    Ends(Result<Option<CuVector<'a>>, BadIndex>),
+    /// Another name.
+    Passes,
+}
+
+#[tactic(auto, unfolding(gdb_index_format::specs::Probe::fault_of, gdb_index_format::specs::Probe::are_in_order, gdb_index_format::specs::Probe::is_table, gdb_index_format::specs::Probe::slot_count, gdb_index_format::specs::Probe::pool_at, gdb_index_format::specs::Probe::table_at))]
+fn parts_of(index: &[u8]) -> Result<Parts, BadIndex>
+    requires { 28 ≤ length index.now }
+    ensures { MatchResult result (ArePartsOf index.now) (λ fault. fault_of index.now ≡ Some fault) }
+{
+    if read_u32(index, 0) != INDEX_VERSION {
+        return Err(BadIndex::Version);
+    }
+    let units = read_u32(index, 4) as usize;
+    let types = read_u32(index, 8) as usize;
+    let addresses = read_u32(index, 12) as usize;
+    let table = read_u32(index, 16) as usize;
+    let shortcuts = read_u32(index, 20) as usize;
+    let pool = read_u32(index, 24) as usize;
+    let in_order = HEADER_LEN as usize <= units
+        && units <= types
+        && types <= addresses
+        && addresses <= table
+        && table <= shortcuts
+        && shortcuts <= pool
+        && pool <= index.len();
+    if !in_order {
+        return Err(BadIndex::Offsets);
+    }
+    let slots = (shortcuts - table) / 8;
+    if (shortcuts - table) % 8 != 0 || !(slots == 0 || slots.is_power_of_two()) {
+        return Err(BadIndex::Slots);
+    }
+    Ok(Parts { table, slots, pool })
+}
+
+/// The bytes from a place up to the first zero byte.
+#[tactic(auto, using(std::proofs::lemmas::List::take_rest), unfolding(elf_format::specs::Bytes::string_at))]
+fn name_from(index: &[u8], at: usize) -> Option<&[u8]>
+    ensures { option_copied result ≡ string_at index.now at }
+{
+    if index.len() < at {
+        return None;
+    }
+    let tail = &index[at..];
+    let len = first_zero(tail)?;
+    Some(&tail[..len])
+}
+
+/// The place of the first zero byte.
+fn first_zero(bytes: &[u8]) -> Option<usize>
+    ensures { result ≡ position (λ byte. byte == 0) bytes.now }
+{
+    memchr(0, bytes)
+}
+
+/// The vector at a place.
+#[tactic(auto, unfolding(gdb_index_format::specs::Probe::vector_at))]
+fn vector_from(index: &[u8], at: usize) -> Result<CuVector<'_>, BadIndex>
+    requires { at < 2 ^ 33 }
+    ensures { MatchResult result
+        (λ words. vector_at index.now at ≡ Ok (Some words))
+        (λ fault. vector_at index.now at ≡ Err fault) }
+{
+    if index.len() < at + 4 {
+        return Err(BadIndex::VectorOutside);
+    }
+    let count = read_u32(index, at) as usize;
+    if index.len() < at + 4 + 4 * count {
+        return Err(BadIndex::VectorOutside);
+    }
+    Ok(CuVector::new(&index[at + 4..at + 4 + 4 * count]))
+}
+
+/// What stands in a slot, sought by a name.
+#[tactic(auto, unfolding(gdb_index_format::specs::Probe::look_in))]
+fn look_into<'a>(index: &'a [u8], name: &[u8], parts: Parts, slot: usize) -> Look<'a>
+    requires parts { ArePartsOf index.now parts }
+    requires within { slot < parts.slots }
+    ensures { seen_look result ≡ look_in index.now name.now slot }
+{
+    let at = parts.table + 8 * slot;
+    let name_offset = read_u32(index, at) as usize;
+    let vector_offset = read_u32(index, at + 4) as usize;
+    if name_offset == 0 && vector_offset == 0 {
+        return Look::Ends(Ok(None));
+    }
+    match name_from(index, parts.pool + name_offset) {
+        None => Look::Ends(Err(BadIndex::NameOutside)),
+        Some(stored) if stored == name => Look::Ends(vector_from(
+            index,
+            parts.pool + vector_offset,
+        ).map(Some)),
+        Some(_) => Look::Passes,
+    }
+}
+
+/// What an index says of a name: its words, or None where it does not hold the name. Names are compared byte
+/// by byte. Fewer than 28 bytes hold no name. Each slot that is looked at is a step; there are at most as many
+/// as the index has slots.
+///
+/// `BadIndex` is the first of these that applies: `Version`, `Offsets` and `Slots` where the index as a whole
+/// is not read; `NameOutside` where a slot that is looked at names bytes that no zero byte ends;
+/// `VectorOutside` where the vector of the name leaves the index.
+#[tactic(auto, unfolding(gdb_index_format::specs::Probe::probe, gdb_index_format::specs::Probe::probe_from))]
+pub fn lookup<'a, L: Ledger>(
+    index: &'a [u8],
+    name: &[u8],
+    steps: &mut Steps<L>,
+) -> Result<Option<CuVector<'a>>, BadIndex>
+    ensures answer { result ≡ (probe index.now name.now).answer }
+    ensures looks { steps.new ≡ steps.old + (probe index.now name.now).looks }
+    ensures few { (probe index.now name.now).looks ≤ slot_count index.now }
+{
+    if index.len() < HEADER_LEN as usize {
+        return Ok(None);
+    }
+    let parts = parts_of(index)?;
+    let hash = gdb_hash(name);
+    for look in 0..parts.slots {
+        steps.tick();
+        if let Look::Ends(answer) = look_into(
+            index,
+            name,
+            parts,
+            slot_at(parts.slots, hash, look),
+        ) {
+            return answer;
+        }
+    }
+    Ok(None)
+}

@@ -1,0 +1,49 @@
+//! The hash table of an index (GDB manual, "Index Section Format": the symbol table) while it is filled.
+
+ghost use Rattle.std.specs.Prelude.{◌≡◌, ◌↔◌, ℕ, ◌+◌, ◌*◌, ◌<◌, ◌≤◌, ◌^◌, IsTrue, length};
+ghost use Rattle.std.specs.Int.{IsPowerOfTwo};
+ghost use Rattle.gdb_index_format.specs.Slots.{slot_of};
+ghost use Rattle.gdb_index.specs.Table.{IsFree, HasRoom, with_slot, Inserts};
+
+use elf_words::read_u32;
+
+fn is_free(table: &[u8], slot: usize) -> bool
+    requires { 8 * slot + 8 ≤ length table.now }
+    ensures { IsTrue result ↔ IsFree table.now slot }
+{
+    read_u32(table, 8 * slot) == 0 && read_u32(table, 8 * slot + 4) == 0
+}
+
+fn put_slot(table: &mut [u8], slot: usize, name: u32, vector: u32)
+    requires { 8 * slot + 8 ≤ length table.old }
+    ensures { table.new ≡ with_slot table.old slot (record { name = name; vector = vector }) }
+{
+    let at = 8 * slot;
+    table[at..at + 4].copy_from_slice(&name.to_le_bytes());
+    table[at + 4..at + 8].copy_from_slice(&vector.to_le_bytes());
+}
+
+/// The slot of look `look` of a probe.
+pub(crate) fn slot_at(slots: usize, hash: u32, look: usize) -> usize
+    requires some { 0 < slots }
+    requires table { slots < 2 ^ 32 }
+    requires within { look < slots }
+    ensures is { result ≡ slot_of slots hash look }
+    ensures below { result < slots }
+{
+    let step = u64::from(hash.wrapping_mul(17)) % slots as u64 | 1;
+    ((u64::from(hash) + look as u64 * step) % slots as u64) as usize
+}
+
+/// Puts a name and its vector, by their places in the pool, into the first free slot of the name's probe.
+pub(crate) fn insert_name(table: &mut [u8], slots: usize, hash: u32, name: u32, vector: u32)
+    requires room { HasRoom table.old slots }
+    requires table { slots < 2 ^ 32 }
+    ensures { Inserts table.old table.new slots hash (record { name = name; vector = vector }) }
+{
+    let mut look = 0;
+    while !is_free(table, slot_at(slots, hash, look)) {
+        look += 1;
+    }
+    put_slot(table, slot_at(slots, hash, look), name, vector);
+}

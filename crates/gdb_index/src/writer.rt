@@ -1,0 +1,95 @@
+//! Writes `.gdb_index` (GDB manual, "Index Section Format"), into a buffer of the size that was computed
+//! before.
+
+ghost use Rattle.std.specs.Prelude.{◌≡◌, ℕ, ◌+◌, ◌*◌, ◌<◌, ◌≤◌, ◌^◌, List, length};
+ghost use Rattle.gdb_index_format.specs.Slots.{IsSlotCount};
+ghost use Rattle.gdb_index_format.specs.Named.{all_named, AreNamesOf, AnswersAll};
+ghost use Rattle.gdb_index_format.specs.Published.{Pair};
+ghost use Rattle.gdb_index_format.specs.Units.{index_units};
+ghost use Rattle.gdb_index.specs.Writes.{Extends};
+ghost use Rattle.gdb_index.specs.Filled.{ExtendsByTable};
+ghost use Rattle.gdb_index.specs.Pool.{vectors_len, names_len};
+ghost use Rattle.gdb_index.specs.Layout.{u32s_bytes, header, pool_place, IsIndexOf};
+ghost use Rattle.gdb_index.specs.Size.{IsIndexSize, counts_of};
+ghost use Rattle.gdb_index.specs.Answers.{AnswersFor};
+
+use crate::fill::fill_table;
+use crate::hash::compute_hash_table_slots;
+use crate::pool::vectors_len_of_all;
+use crate::scan_result::GdbIndexScanResult;
+use crate::version::{HEADER_LEN, INDEX_VERSION, SHORTCUTS_LEN};
+use crate::writing::{
+    append_addresses, append_names, append_u32s, append_units, append_vectors, append_zeros,
+};
+use gdb_index_format::{AddressEntry, NameWords};
+
+/// Writes the version and the offsets of the parts. The list of type units is empty.
+fn append_header(buf: &mut [u8], units: usize, addresses: usize, slots: usize) -> usize
+    requires room { pool_place INDEX_VERSION units addresses slots ≤ length buf.old }
+    requires small { length buf.old < 2 ^ 32 }
+    ensures extends { Extends buf.old buf.new 0 (u32s_bytes (header INDEX_VERSION units addresses slots)) }
+    ensures end { result ≡ 28 }
+{
+    let addresses_at = HEADER_LEN + 16 * units as u32;
+    let table_at = addresses_at + 20 * addresses as u32;
+    let shortcuts_at = table_at + 8 * slots as u32;
+    let offsets = [
+        INDEX_VERSION,
+        HEADER_LEN,
+        addresses_at,
+        addresses_at,
+        table_at,
+        shortcuts_at,
+        shortcuts_at + SHORTCUTS_LEN,
+    ];
+    append_u32s(buf, 0, &offsets)
+}
+
+/// Writes the hash table, in which each name stands in the first slot of its probe that no earlier name
+/// holds.
+fn append_table(buf: &mut [u8], at: usize, slots: usize, names: &[NameWords<'_>]) -> usize
+    requires room { at + 8 * slots ≤ length buf.old }
+    requires counted { IsSlotCount (length names.now) slots }
+    requires small { slots < 2 ^ 32 }
+    requires fits { vectors_len (all_named names.now) + names_len (all_named names.now) < 2 ^ 32 }
+    ensures extends { ExtendsByTable buf.old buf.new at slots (all_named names.now) }
+    ensures end { result ≡ at + 8 * slots }
+{
+    let end = append_zeros(buf, at, 8 * slots);
+    let vectors = vectors_len_of_all(names);
+    if slots > 0 {
+        fill_table(&mut buf[at..end], slots, names, vectors);
+    }
+    end
+}
+
+/// Writes the index of a scan result with these address entries into all of `buf`, whose length has to be
+/// the scan result's size: at least 1 and below 2^32. There may be at most as many address entries as there
+/// are placed sections; where there are fewer, the bytes that this saves are zeros at the end.
+pub fn write_gdb_index(buf: &mut [u8], scan: &GdbIndexScanResult<'_>, addresses: &[AddressEntry])
+    requires size { IsIndexSize INDEX_VERSION (counts_of scan.now) (length buf.old) }
+    requires some { 1 ≤ length buf.old }
+    requires small { length buf.old < 2 ^ 32 }
+    requires addresses { length addresses.now ≤ scan.now.placed }
+
+    // what stands where
+    ensures layout { IsIndexOf INDEX_VERSION scan.now addresses.now buf.new }
+
+    // what a reader finds
+    ensures units { index_units buf.new ≡ scan.now.units }
+    ensures answers { AnswersFor buf.new scan.now.names }
+    ensures published { (ps : List Pair) → AreNamesOf ps scan.now.names → AnswersAll buf.new ps }
+{
+    let units = scan.units();
+    let names = scan.names();
+    let slots = compute_hash_table_slots(names.len());
+    let at = append_header(buf, units.len(), addresses.len(), slots);
+    let at = append_units(buf, at, units);
+    let at = append_addresses(buf, at, addresses);
+    let at = append_table(buf, at, slots, names);
+    let at = append_zeros(buf, at, SHORTCUTS_LEN as usize);
+    let at = append_vectors(buf, at, names);
+    let at = append_names(buf, at, names);
+    let saved = buf.len() - at;
+    append_zeros(buf, at, saved);
+}
