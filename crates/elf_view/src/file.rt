@@ -2,7 +2,7 @@
 //! of it (gABI, ELF Header, Sections and Symbol Table). Contracts see a file as its bytes and whether it was
 //! read as a dynamic one.
 
-ghost use Rattle.std.specs.Prelude.{◌≡◌, None, Some, IfOk, IfErr, IfSome, length, ◌<◌, ◌^◌, slice_get, option_map, option_copied, option_and_then};
+ghost use Rattle.std.specs.Prelude.{◌≡◌, None, Some, IfOk, IfErr, IfSome, length, ◌*◌, ◌<◌, ◌≤◌, ◌^◌, slice_get, option_map, option_copied, option_and_then};
 ghost use Rattle.std.specs.List.{enumerate_from};
 ghost use Rattle.std.specs.Result.{result_ok, result_err};
 ghost use Rattle.elf_format.specs.Architecture.{architecture_of};
@@ -127,9 +127,12 @@ impl<'a, C: ElfClass> File<'a, C> {
         self.headers.iter()
     }
 
-    /// The headers of all sections, each with its index, from index 0 on.
+    /// The headers of all sections, each with its index, from index 0 on. They lie in the file, and each has
+    /// at least 40 bytes there.
+    #[tactic(auto, using(crate::proofs::SectionsFit::sections_fit))]
     pub fn enumerate_sections(&self) -> SectionEnum<'a, C>
-        ensures { result ≡ enumerate_from 0 (sections C.class self.now.bytes) }
+        ensures sections { result ≡ enumerate_from 0 (sections C.class self.now.bytes) }
+        ensures fit { 40 * length (sections C.class self.now.bytes) ≤ length self.now.bytes }
     {
         SectionEnum::new(self.headers.iter())
     }

@@ -1,1 +1,5 @@
 pub mod UnitCause
+pub mod Entries
+pub mod Sets
+pub mod Clean
+pub mod UnitSearch

@@ -3,7 +3,16 @@
 //! front to back, and names stay slices of them.
 #![tactic(auto)]
 
+mod entries;
+mod set_error;
+mod sets;
+#[cfg(test)]
+mod tests;
+mod unit_search;
 mod units;
 
 pub use gdb_index_format::{CuBoundary, DwarfFormat, UnitFault};
+pub use set_error::SetError;
+pub use sets::{PubnamesSet, parse_pubnames_sets};
+pub use unit_search::{cu_index_for_offset, unit_with_offset};
 pub use units::{UnitError, parse_cu_boundaries};

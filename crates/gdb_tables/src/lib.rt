@@ -1,0 +1,27 @@
+//! Gathers what the objects of a program hold for one `.gdb_index` (GDB manual, "Index Section Format"): the
+//! scan of an object, the merge of all scans, and the size of the index. With the calls of the crates below,
+//! which are found here too, an index is then written and read.
+#![tactic(auto)]
+
+mod error;
+mod mark;
+mod names;
+mod object_names;
+mod object_scan;
+mod object_sections;
+mod placed;
+mod scan;
+
+pub use error::GdbError;
+pub use gdb_index::{
+    AddressEntry, BadIndex, CuVector, GdbIndexScanResult, INDEX_VERSION, IndexCounts,
+    IndexTooLarge, NameWords, Steps, checked_index_size, compute_hash_table_slots,
+    encode_cu_vector_entry, gdb_hash, index_size, lookup, write_gdb_index,
+};
+pub use gdb_index_format::{CuBoundary, Placement, UnitFault};
+pub use gdb_sections::{
+    PubnamesSet, SetError, UnitError, cu_index_for_offset, parse_cu_boundaries, parse_pubnames_sets,
+};
+pub use mark::{Mark, NameMarks};
+pub use object_scan::PerObjectScan;
+pub use scan::scan_one_object;
