@@ -1,5 +1,6 @@
 pub mod Bytes
 pub mod Span
+pub mod Flags
 pub mod Class
 pub mod Table
 pub mod Architecture

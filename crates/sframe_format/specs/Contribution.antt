@@ -1,10 +1,11 @@
 -- What the ranges contribute: headers, descriptors and rows.
-use Rattle.std.specs.Prelude.{ℕ, ℤ, pos, ◌+ℤ◌, ◌+◌, ◌-◌, ◌*◌, Bool, not, ◌&&◌, ◌==◌, nat_lt, nat_le, List, length, map, filter, take_while, find, fold, min, Option, if◌then◌else◌, slice_range, bit_and}
+use Rattle.std.specs.Prelude.{ℕ, ℤ, pos, ◌+ℤ◌, ◌+◌, ◌-◌, ◌*◌, Bool, not, ◌&&◌, ◌==◌, nat_lt, nat_le, List, length, map, filter, take_while, find, fold, min, Option, if◌then◌else◌, slice_range}
 use Rattle.std.specs.List.{flat_map, range_with_len}
 use Rattle.std.specs.Option.{option_map}
 use Rattle.sframe_format.specs.declared.header.Header.{Header}
 use Rattle.elf_format.specs.declared.index.Span.{Span}
 use Rattle.elf_format.specs.Bytes.{u32_at}
+use Rattle.elf_format.specs.Flags.{has_flag}
 use Rattle.sframe_format.specs.Fields.{i32_at, header_of}
 
 -- the bytes of a range of at least 28 bytes, and their place in the section
@@ -46,9 +47,6 @@ rows_start c = 28 + (header c).aux_len + (header c).fre_start_offset
 -- where descriptor d begins, from the contribution's first byte
 abbrev pub descriptor_at : Contribution → ℕ → ℕ
 descriptor_at c d = descriptors_start c + 20 * d
-
-abbrev pub has_flag : ℕ → ℕ → Bool
-has_flag flags mask = not (bit_and flags mask == 0)
 
 -- How many bytes from its field behind the section's first byte a start value counts: that field's place, where the flag says so.
 abbrev pub origin : ℕ → ℕ → ℕ

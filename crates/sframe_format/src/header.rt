@@ -1,7 +1,7 @@
 ghost use Rattle.std.specs.Prelude.{◌≡◌, ◌≢◌, ◌+◌, ◌≤◌, ◌++◌, List, ℕ, length, drop, MatchResult, IfOk, Ok};
 ghost use Rattle.sframe_format.specs.Fields.{header_of, header_bytes, IsParsed};
 
-use crate::fields::{read_u16, read_u32};
+use elf_words::{read_u16, read_u32};
 
 /// Why a header is not one of version 2.
 #[derive(Clone, Copy, Debug, PartialEq, Eq)]

@@ -5,7 +5,7 @@ mod fault;
 mod fields;
 mod header;
 
-pub use elf_format::Span;
+pub use elf_words::Span;
 pub use fault::{LargeKind, SframeFault, SframeOutcome, TruncatedKind};
-pub use fields::{read_i32, read_u16, read_u32};
+pub use fields::read_i32;
 pub use header::{Header, SframeError, written_then_read};

@@ -1,0 +1,109 @@
+//! The symbols of a file, and their section indexes (gABI, Symbol Table): the last table of each counts.
+
+ghost use Rattle.std.specs.Prelude.{◌≡◌, ◌==◌, ◌&&◌, option_map};
+ghost use Rattle.std.specs.List.{enumerate_from};
+ghost use Rattle.elf_format.specs.Bytes.{get};
+ghost use Rattle.elf_format.specs.Class.{sh_type, sh_link};
+ghost use Rattle.elf_format.specs.Section.{sections};
+ghost use Rattle.elf_format.specs.Symbol.{last_that, symbol_table, index_table, symbols, section_indexes};
+
+use crate::index_entry::IndexEntry;
+use crate::section::bytes_of_section;
+use crate::symbol::symbol_table_type;
+use elf_words::{ElfClass, Record, Records, SHT_SYMTAB_SHNDX, SectionHeaderFields};
+
+/// The last section of a type, with its index.
+#[tactic(auto, using(elf_format::proofs::SearchLemmas::or_none, elf_format::proofs::SearchLemmas::or_later))]
+fn last_of_type<'a, C: ElfClass>(
+    headers: &Records<'a, C::SectionHeader>,
+    section_type: u32,
+) -> Option<(usize, C::SectionHeader)>
+    ensures { option_map (λ found. (found.0, C.SectionHeader.contents found.1)) result ≡ last_that (λ s. get (sh_type C.class) s.1 == section_type) (enumerate_from 0 headers.now) }
+{
+    let mut last = None;
+    for (index, header) in headers.iter().enumerate() {
+        if header.sh_type() == section_type {
+            last = Some((index, header));
+        }
+    }
+    last
+}
+
+/// The last section of a type that is linked to another, with its index.
+#[tactic(auto, using(elf_format::proofs::SearchLemmas::or_none, elf_format::proofs::SearchLemmas::or_later))]
+fn last_linked<'a, C: ElfClass>(
+    headers: &Records<'a, C::SectionHeader>,
+    section_type: u32,
+    link: usize,
+) -> Option<(usize, C::SectionHeader)>
+    ensures { option_map (λ found. (found.0, C.SectionHeader.contents found.1)) result ≡ last_that (λ s. get (sh_type C.class) s.1 == section_type && get (sh_link C.class) s.1 == link) (enumerate_from 0 headers.now) }
+{
+    let mut last = None;
+    for (index, header) in headers.iter().enumerate() {
+        if header.sh_type() == section_type && header.sh_link() as usize == link {
+            last = Some((index, header));
+        }
+    }
+    last
+}
+
+/// The section that holds the symbols, with its index.
+#[tactic(auto, unfolding(elf_format::specs::Symbol::symbol_table))]
+pub fn find_symbol_table<'a, C: ElfClass>(
+    bytes: &'a [u8],
+    is_dynamic: bool,
+    headers: &Records<'a, C::SectionHeader>,
+) -> Option<(usize, C::SectionHeader)>
+    requires { headers.now ≡ sections C.class bytes.now }
+    ensures { option_map (λ found. (found.0, C.SectionHeader.contents found.1)) result ≡ symbol_table C.class is_dynamic bytes.now }
+{
+    last_of_type::<C>(headers, symbol_table_type(is_dynamic))
+}
+
+/// The symbols.
+#[tactic(auto, unfolding(elf_format::specs::Symbol::symbols))]
+pub fn read_symbols<'a, C: ElfClass>(
+    bytes: &'a [u8],
+    is_dynamic: bool,
+    headers: &Records<'a, C::SectionHeader>,
+) -> Records<'a, C::Sym>
+    requires { headers.now ≡ sections C.class bytes.now }
+    ensures { result ≡ symbols C.class is_dynamic bytes.now }
+{
+    let found = match find_symbol_table::<C>(bytes, is_dynamic, headers) {
+        Some((_, header)) => bytes_of_section(bytes, &header).unwrap_or(&[]),
+        None => &[],
+    };
+    Records::whole(found)
+}
+
+/// The section that holds the section indexes of the symbols, with its index.
+#[tactic(auto, unfolding(elf_format::specs::Symbol::index_table))]
+fn find_index_table<'a, C: ElfClass>(
+    bytes: &'a [u8],
+    is_dynamic: bool,
+    headers: &Records<'a, C::SectionHeader>,
+) -> Option<(usize, C::SectionHeader)>
+    requires { headers.now ≡ sections C.class bytes.now }
+    ensures { option_map (λ found. (found.0, C.SectionHeader.contents found.1)) result ≡ index_table C.class is_dynamic bytes.now }
+{
+    let (table, _) = find_symbol_table::<C>(bytes, is_dynamic, headers)?;
+    last_linked::<C>(headers, SHT_SYMTAB_SHNDX, table)
+}
+
+/// The section indexes of the symbols.
+#[tactic(auto, unfolding(elf_format::specs::Symbol::section_indexes))]
+pub fn read_section_indexes<'a, C: ElfClass>(
+    bytes: &'a [u8],
+    is_dynamic: bool,
+    headers: &Records<'a, C::SectionHeader>,
+) -> Records<'a, IndexEntry>
+    requires { headers.now ≡ sections C.class bytes.now }
+    ensures { result ≡ section_indexes C.class is_dynamic bytes.now }
+{
+    let found = match find_index_table::<C>(bytes, is_dynamic, headers) {
+        Some((_, header)) => bytes_of_section(bytes, &header).unwrap_or(&[]),
+        None => &[],
+    };
+    Records::whole(found)
+}

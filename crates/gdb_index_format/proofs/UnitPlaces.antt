@@ -1,0 +1,23 @@
+-- Units one behind another begin at running sums of their lengths.
+use Rattle.std.proofs.Common.{◌≡◌, ℕ, zero, suc, ◌+◌, ◌<◌, List, [], ◌∷◌, length, map, take, get_or, refl, ap, ◌∙◌, arith}
+use Rattle.std.proofs.lemmas.List.Sums.{sum_by-cons}
+use Rattle.gdb_index_format.specs.declared.unit.CuBoundary.{CuBoundary}
+use Rattle.gdb_index_format.specs.Units.{total_length}
+use Rattle.gdb_index_format.specs.Published.{one_behind_another, units_in_objects, UnitsOfAllRun}
+
+pub offset_at : (us : List CuBoundary) (at k : ℕ) (d : CuBoundary) → k < length (one_behind_another at us) → (get_or (one_behind_another at us) k d).offset ≡ at + total_length (take k (one_behind_another at us))
+offset_at [] at k d l = absurd (omega arith)
+offset_at (u ∷ us) at zero d l = omega arith
+offset_at (u ∷ us) at (suc k) d l =
+    offset_at us (at + u.length) k d (omega arith)
+    ∙ omega (arith, sum_by-cons (λ (x : CuBoundary). x.length) (record { offset = at; length = u.length }) (take k (one_behind_another (at + u.length) us)))
+
+pub same_lengths : (us : List CuBoundary) (at : ℕ) → map (λ (u : CuBoundary). u.length) (one_behind_another at us) ≡ map (λ (u : CuBoundary). u.length) us
+same_lengths [] at = refl
+same_lengths (u ∷ us) at = ap (λ ns. u.length ∷ ns) (same_lengths us (at + u.length))
+
+pub units_of_all_run_lem : UnitsOfAllRun
+units_of_all_run_lem = record {
+  offsets = λ os k d l. offset_at (units_in_objects os) 0 k d l ∙ omega arith;
+  lengths = λ os. same_lengths (units_in_objects os) 0;
+}

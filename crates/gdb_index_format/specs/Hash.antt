@@ -1,0 +1,16 @@
+-- The hash of a name, and the words that say which unit publishes it and how (GDB manual, "Index Section
+-- Format": the symbol table's hash function, and the elements of a CU vector).
+use Rattle.std.specs.Prelude.{ℕ, ◌+◌, ◌-◌, ◌*◌, ◌/◌, ◌%◌, List}
+use Rattle.std.specs.List.{fold}
+use Rattle.std.specs.Char.{to_ascii_lowercase}
+
+-- each byte, with A to Z taken as a to z, joins the hash of the bytes before it
+abbrev pub hash_step : ℕ → ℕ → ℕ
+hash_step hash byte = (hash * 67 + to_ascii_lowercase byte + 4294967296 - 113) % 4294967296
+
+abbrev pub name_hash : List ℕ → ℕ
+name_hash name = fold hash_step 0 name
+
+-- the word of a unit's number and a flag byte: bits 4 to 6 of the flag are the kind, bit 7 says static
+abbrev pub word_of : ℕ → ℕ → ℕ
+word_of unit flag = unit + flag / 16 % 8 * 268435456 + flag / 128 % 2 * 2147483648

@@ -1,0 +1,12 @@
+pub mod Version
+pub mod Hash
+pub mod Slots
+pub mod Units
+pub mod Names
+pub mod Published
+pub mod Objects
+pub mod Placed
+pub mod Size
+pub mod Probe
+pub mod Named
+pub mod Example

@@ -1,0 +1,47 @@
+-- Names with their words, and what an index must answer for them.
+use Rattle.std.specs.Prelude.{◌≡◌, ◌≢◌, ℕ, ◌<◌, List, [], length, map, Option, Some, None, Result, Ok, Err, slice_index_or}
+use Rattle.std.specs.List.{All}
+use Rattle.gdb_index_format.specs.declared.bad_index.BadIndex.{BadIndex}
+use Rattle.gdb_index_format.specs.declared.name_words.NameWords.{NameWords}
+use Rattle.gdb_index_format.specs.Published.{Pair, words_in_order, IsWordsOf, first_names}
+use Rattle.gdb_index_format.specs.Probe.{probe}
+
+-- a name with its words
+pub record Named : Type 0 where
+  pub name : List ℕ
+  pub words : List ℕ
+
+abbrev pub named : NameWords → Named
+named n = record { name = n.name.now; words = n.words.items }
+
+abbrev pub all_named : List NameWords → List Named
+all_named ns = map named ns
+
+-- no two names are the same
+abbrev pub AreDistinct : List Named → Type 0
+AreDistinct ns = (i j : ℕ) (d : Named) → i < length ns → j < length ns → (slice_index_or ns i d).name ≡ (slice_index_or ns j d).name → i ≡ j
+
+-- name i of a list
+abbrev pub IsNamed : List Named → List ℕ → ℕ → Type 0
+IsNamed ns name i = (i < length ns) × ((d : Named) → (slice_index_or ns i d).name ≡ name)
+
+-- these are the published names, each with its words
+pub record AreNamesOf (ps : List Pair) (ns : List Named) : Type 0 where
+  pub words : All (λ n. (n.words ≢ []) × IsWordsOf n.name ps n.words) ns
+  pub all : All (λ p. (i : ℕ) × IsNamed ns p.name i) ps
+
+-- the published names, each once and in the order of first publication, with their words in ascending order
+pub record ListsPublished (ps : List Pair) (ns : List Named) : Type 0 where
+  pub order : map (λ n. n.name) ns ≡ first_names ps
+  pub names : AreNamesOf ps ns
+  pub distinct : AreDistinct ns
+
+-- the answer for a name: its words, ascending, where it is published; else that it is absent; never a fault
+abbrev pub IsAnswer : List Pair → List ℕ → Result (Option (List ℕ)) BadIndex → Type 0
+IsAnswer ps name (Ok (Some words)) = (words ≢ []) × IsWordsOf name ps words
+IsAnswer ps name (Ok None) = words_in_order name ps ≡ []
+IsAnswer ps name (Err fault) = ⊥
+
+-- for every byte string
+abbrev pub AnswersAll : List ℕ → List Pair → Type 0
+AnswersAll b ps = (name : List ℕ) → IsAnswer ps name (probe b name).answer

@@ -1,0 +1,93 @@
+-- The units and the sets of names that the bytes of an object hold.
+use Rattle.std.specs.Prelude.{◌≡◌, ℕ, Bool, false, ◌||◌, ◌&&◌, ◌==◌, List, [], ◌∷◌, ◌++◌, Option, Some, None, option_map, option_and_then, find, slice_get, codes}
+use Rattle.std.specs.List.{filter, enumerate_from}
+use Rattle.elf_format.specs.Bytes.{get}
+use Rattle.elf_format.specs.Class.{Class, sh_flags}
+use Rattle.elf_format.specs.Flags.{has_flag, shf_compressed}
+use Rattle.elf_format.specs.Section.{sections, section_bytes, section_name, section_of_name, is_name}
+use Rattle.gdb_index_format.specs.declared.unit.CuBoundary.{CuBoundary}
+use Rattle.gdb_index_format.specs.Units.{IsUnitList}
+use Rattle.gdb_index_format.specs.Names.{NameSet, IsSetList}
+use Rattle.gdb_index_format.specs.Published.{Object}
+
+-- the section that holds an object's units: the first of its name
+abbrev pub info_section : Class → List ℕ → Option ℕ
+info_section c file = section_of_name c file (codes ".debug_info")
+
+abbrev pub bytes_of_section : Class → List ℕ → Option ℕ → Option (List ℕ)
+bytes_of_section c file None = Some []
+bytes_of_section c file (Some index) = option_and_then (section_bytes c file) (slice_get (sections c file) index)
+
+-- its bytes, where the object holds them: none where it has no such section
+abbrev pub info_bytes : Class → List ℕ → Option (List ℕ)
+info_bytes c file = bytes_of_section c file (info_section c file)
+
+-- Bytes that are there, and tiled by these units.
+pub record AreUnitsIn (held : Option (List ℕ)) (us : List CuBoundary) : Type 0 where
+  pub bytes : List ℕ
+  pub there : held ≡ Some bytes
+  pub list : IsUnitList bytes us
+
+-- the units of an object
+abbrev pub IsUnitsOf : Class → List ℕ → List CuBoundary → Type 0
+IsUnitsOf c file us = AreUnitsIn (info_bytes c file) us
+
+-- whether a section holds sets of names
+abbrev pub is_names_section : Class → List ℕ → List ℕ → Bool
+is_names_section c file header =
+    is_name (codes ".debug_gnu_pubnames") (section_name c file header) || is_name (codes ".debug_gnu_pubtypes") (section_name c file header)
+
+-- the names sections in section order, each by its index and its header
+abbrev pub names_sections : Class → List ℕ → List (ℕ × List ℕ)
+names_sections c file = filter (λ s. is_names_section c file s.1) (enumerate_from 0 (sections c file))
+
+-- Bytes that are there, and a list of these sets.
+pub record AreSetsIn (held : Option (List ℕ)) (ss : List NameSet) : Type 0 where
+  pub bytes : List ℕ
+  pub there : held ≡ Some bytes
+  pub list : IsSetList bytes ss
+
+-- the sets of some sections, one section behind another
+abbrev pub AreSetsOfSections : Class → List ℕ → List (ℕ × List ℕ) → List NameSet → Type 0
+AreSetsOfSections c file [] ss = ss ≡ []
+AreSetsOfSections c file (s ∷ more) ss =
+    (front : List NameSet) × (rest : List NameSet) × (ss ≡ front ++ rest) × AreSetsIn (section_bytes c file s.1) front × AreSetsOfSections c file more rest
+
+-- the sets of all names sections of an object
+abbrev pub IsSetsOf : Class → List ℕ → List NameSet → Type 0
+IsSetsOf c file ss = AreSetsOfSections c file (names_sections c file) ss
+
+-- the sets that count: where there is no unit, no names section is read
+abbrev pub AreSetsBeside : Class → List ℕ → List CuBoundary → List NameSet → Type 0
+AreSetsBeside c file [] ss = ss ≡ []
+AreSetsBeside c file (u ∷ us) ss = IsSetsOf c file ss
+
+-- What an object holds.
+pub record IsObjectOf (c : Class) (file : List ℕ) (o : Object) : Type 0 where
+  pub units : IsUnitsOf c file o.units
+  pub sets : AreSetsBeside c file o.units o.sets
+
+-- what each of some objects holds
+abbrev pub AreObjectsOf : Class → List (List ℕ) → List Object → Type 0
+AreObjectsOf c [] [] = Unit {0}
+AreObjectsOf c [] (o ∷ os) = ⊥
+AreObjectsOf c (file ∷ files) [] = ⊥
+AreObjectsOf c (file ∷ files) (o ∷ os) = IsObjectOf c file o × AreObjectsOf c files os
+
+-- An object holds one list of units and one list of sets, and so do several.
+pub record ObjectsAreOne : Type 0 where
+  pub one_object : (c : Class) (file : List ℕ) (o p : Object) → IsObjectOf c file o → IsObjectOf c file p → o ≡ p
+  pub one_list : (c : Class) (files : List (List ℕ)) (os ps : List Object) → AreObjectsOf c files os → AreObjectsOf c files ps → os ≡ ps
+
+abbrev pub is_index : ℕ → Option ℕ → Bool
+is_index index None = false
+is_index index (Some found) = index == found
+
+-- whether a section's bytes are read: the first `.debug_info`, and the names sections
+abbrev pub is_read : Class → List ℕ → ℕ × List ℕ → Bool
+is_read c file s = is_index s.0 (info_section c file) || is_names_section c file s.1
+
+-- the lowest section of those that are read whose bytes are compressed
+abbrev pub first_compressed : Class → List ℕ → Option ℕ
+first_compressed c file =
+    option_map (λ s. s.0) (find (λ s. is_read c file s && has_flag (get (sh_flags c) s.1) shf_compressed) (enumerate_from 0 (sections c file)))

@@ -1,0 +1,87 @@
+-- The probe: what the bytes of an index say of a name (GDB manual, "Index Section Format"). It knows nothing
+-- of how the index was made.
+use Rattle.std.specs.Prelude.{ℕ, zero, suc, ◌+◌, ◌-◌, ◌*◌, ◌/◌, ◌%◌, ◌==◌, ◌&&◌, ◌||◌, Bool, not, List, map, length, Option, Some, None, Result, Ok, Err, nat_lt, nat_le, if◌then◌else◌}
+use Rattle.std.specs.Int.{is_power_of_two}
+use Rattle.std.specs.List.{range_with_len}
+use Rattle.std.specs.Str.{bytes_eq}
+use Rattle.gdb_index_format.specs.declared.bad_index.BadIndex.{BadIndex}
+use Rattle.gdb_index_format.specs.declared.bad_index.BadIndex.TheVariants.{Version, Offsets, Slots, NameOutside, VectorOutside}
+use Rattle.elf_format.specs.Bytes.{u32_at, string_at}
+use Rattle.gdb_index_format.specs.Version.{is_known, header_len, pool_field}
+use Rattle.gdb_index_format.specs.Hash.{name_hash}
+use Rattle.gdb_index_format.specs.Slots.{slot_of}
+
+-- where the symbol table and the constant pool begin, and how many slots there are
+unfoldable pub table_at : List ℕ → ℕ
+table_at b = u32_at b 16
+
+unfoldable pub pool_at : List ℕ → ℕ
+pool_at b = u32_at b (pool_field (u32_at b 0))
+
+unfoldable pub slot_count : List ℕ → ℕ
+slot_count b = (u32_at b 20 - u32_at b 16) / 8
+
+-- the parts stand in order behind the header, and within the bytes
+unfoldable pub are_in_order : List ℕ → Bool
+are_in_order b = nat_le (header_len (u32_at b 0)) (u32_at b 4) && nat_le (u32_at b 4) (u32_at b 8) && nat_le (u32_at b 8) (u32_at b 12) && nat_le (u32_at b 12) (u32_at b 16) && nat_le (u32_at b 16) (u32_at b 20) && nat_le (u32_at b 20) (pool_at b) && nat_le (pool_at b) (length b)
+
+-- the symbol table is whole slots, and none or a power of two of them
+unfoldable pub is_table : List ℕ → Bool
+is_table b = ((u32_at b 20 - u32_at b 16) % 8 == 0) && ((slot_count b == 0) || is_power_of_two (slot_count b))
+
+-- what is wrong with the index as a whole, whatever the name
+unfoldable pub fault_of : List ℕ → Option BadIndex
+fault_of b =
+    if not (is_known (u32_at b 0)) then Some Version
+    else (if not (are_in_order b) then Some Offsets
+    else (if not (is_table b) then Some Slots else None))
+
+-- What one look gives: the answer that ends the probe, or another name than the one sought.
+pub data Look : Type 0 where
+  Ends : Result (Option (List ℕ)) BadIndex → Look
+  Passes : Look
+
+-- the words of the vector at a place: a count, and so many words
+unfoldable pub vector_at : List ℕ → ℕ → Result (Option (List ℕ)) BadIndex
+vector_at b at =
+    if nat_lt (length b) (at + 4) || nat_lt (length b) (at + 4 + 4 * u32_at b at) then Err VectorOutside
+    else Ok (Some (map (λ k. u32_at b (at + 4 + 4 * k)) (range_with_len 0 (u32_at b at))))
+
+abbrev pub look_named : List ℕ → List ℕ → ℕ → Option (List ℕ) → Look
+look_named b name at None = Ends (Err NameOutside)
+look_named b name at (Some stored) = if bytes_eq stored name then Ends (vector_at b at) else Passes
+
+-- what stands in a slot, sought by a name
+unfoldable pub look_in : List ℕ → List ℕ → ℕ → Look
+look_in b name slot =
+    let name_offset = u32_at b (table_at b + 8 * slot) in
+    let vector_offset = u32_at b (table_at b + 8 * slot + 4) in
+    if (name_offset == 0) && (vector_offset == 0) then Ends (Ok None)
+    else look_named b name (pool_at b + vector_offset) (string_at b (pool_at b + name_offset))
+
+-- The answer of a probe, and how many looks it took.
+pub record Probed : Type 0 where
+  pub answer : Result (Option (List ℕ)) BadIndex
+  pub looks : ℕ
+
+abbrev pub after_look : Look → ℕ → Probed → Probed
+after_look (Ends answer) k rest = record { answer = answer; looks = k + 1 }
+after_look Passes k rest = rest
+
+-- from look k on, of which so many are left
+unfoldable pub probe_from : (ℕ → Look) → ℕ → ℕ → Probed
+probe_from look zero k = record { answer = Ok None; looks = k }
+probe_from look (suc left) k = after_look (look k) k (probe_from look left (k + 1))
+
+-- look k of the probe for a name
+abbrev pub look_at : List ℕ → List ℕ → ℕ → Look
+look_at b name k = look_in b name (slot_of (slot_count b) (name_hash name) k)
+
+abbrev pub unless_fault : Option BadIndex → Probed → Probed
+unless_fault (Some fault) rest = record { answer = Err fault; looks = 0 }
+unless_fault None rest = rest
+
+unfoldable pub probe : List ℕ → List ℕ → Probed
+probe b name =
+    if nat_lt (length b) (header_len (u32_at b 0)) then record { answer = Ok None; looks = 0 }
+    else unless_fault (fault_of b) (probe_from (look_at b name) (slot_count b) 0)

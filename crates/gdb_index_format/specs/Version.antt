@@ -1,0 +1,19 @@
+-- What depends on the version of an index (GDB manual, "Index Section Format"). Every other rule of the
+-- format is the same for all versions.
+use Rattle.std.specs.Prelude.{ℕ, Bool, ◌==◌}
+
+-- whether a version is read
+abbrev pub is_known : ℕ → Bool
+is_known version = version == 9
+
+-- how many bytes the header has
+abbrev pub header_len : ℕ → ℕ
+header_len version = 28
+
+-- where the header says where the constant pool begins
+abbrev pub pool_field : ℕ → ℕ
+pool_field version = 24
+
+-- how many bytes the shortcut table has
+abbrev pub shortcut_len : ℕ → ℕ
+shortcut_len version = 8

@@ -1,0 +1,27 @@
+//! The `.gdb_index` format (GDB manual, "Index Section Format"), with the units of `.debug_info` (DWARF 5, 7.4
+//! and 7.5.1) and the sets of names of `.debug_gnu_pubnames` that an index is made of. The definitions stand
+//! in `specs/`; the plain types that they name, laws over them and examples of them stand here. What depends
+//! on the version of an index is said in `specs/Version.antt` alone.
+#![tactic(auto)]
+
+mod bad_index;
+mod dwarf_format;
+mod examples;
+mod laws;
+mod name_words;
+mod placement;
+mod unit;
+
+pub use bad_index::BadIndex;
+pub use dwarf_format::DwarfFormat;
+pub use examples::{
+    faulty_indexes, one_name_is_found, small_object_publishes_main, small_sets, small_units,
+    two_names_are_found,
+};
+pub use laws::{
+    each_slot_once, objects_are_one, sets_are_one, sizes_are_one, units_are_one, units_of_all_run,
+    words_are_one,
+};
+pub use name_words::NameWords;
+pub use placement::{AddressEntry, Placement};
+pub use unit::{CuBoundary, UnitFault};

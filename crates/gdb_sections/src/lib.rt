@@ -1,0 +1,9 @@
+//! Reads what an index is made of: the units of `.debug_info` (DWARF 5, 7.4 and 7.5.1) and the sets of names of
+//! `.debug_gnu_pubnames` and `.debug_gnu_pubtypes`, and finds the unit of an offset. Bytes are read once, from
+//! front to back, and names stay slices of them.
+#![tactic(auto)]
+
+mod units;
+
+pub use gdb_index_format::{CuBoundary, DwarfFormat, UnitFault};
+pub use units::{UnitError, parse_cu_boundaries};
