@@ -10,6 +10,7 @@ mod record;
 mod records;
 mod section_header;
 mod section_types;
+mod span;
 mod sym;
 mod word;
 
@@ -25,5 +26,6 @@ pub use section_types::{
     SHT_GNU_VERSYM, SHT_GROUP, SHT_NOBITS, SHT_NOTE, SHT_NULL, SHT_PROGBITS, SHT_REL, SHT_RELA,
     SHT_RISCV_ATTRIBUTES, SHT_STRTAB, SHT_SYMTAB, SHT_SYMTAB_SHNDX,
 };
+pub use span::first_outside;
 pub use sym::SymFields;
 pub use word::{ElfWord, Field, FieldError};

@@ -1,0 +1,93 @@
+//! Finds the sections of debugging information by their names, and says which of them is compressed.
+
+ghost use Rattle.std.specs.Prelude.{◌≡◌, ◌&&◌, List, ℕ, Some, IfErr, option_map, option_copied, slice_get};
+ghost use Rattle.std.specs.Result.{result_ok};
+ghost use Rattle.elf_format.specs.declared.error.ElfError.TheVariants.{SectionData};
+ghost use Rattle.elf_format.specs.Bytes.{get};
+ghost use Rattle.elf_format.specs.Class.{sh_flags};
+ghost use Rattle.elf_format.specs.Flags.{has_flag, shf_compressed};
+ghost use Rattle.elf_format.specs.Section.{sections};
+ghost use Rattle.gdb_index_format.specs.Objects as objects;
+
+use elf_format::{ElfError, SectionIndex};
+use elf_view::File;
+use elf_words::{ElfClass, SectionHeaderFields};
+
+/// The section whose units are read: the first of its name.
+const DEBUG_INFO: &str = ".debug_info";
+
+/// The flag of a section whose bytes are compressed (gABI, Section Attribute Flags).
+const SHF_COMPRESSED: u64 = 0x800;
+
+/// Whether the section at an index holds sets of names: `.debug_gnu_pubnames` or `.debug_gnu_pubtypes`.
+pub fn is_names_section<C: ElfClass>(file: &File<'_, C>, index: SectionIndex) -> bool
+    ensures { (header : List ℕ) → slice_get (sections C.class file.now.bytes) index.0 ≡ Some header → result ≡ objects.is_names_section C.class file.now.bytes header }
+{
+    match file.section_name(index) {
+        Ok(name) => name == b".debug_gnu_pubnames".as_slice()
+            || name == b".debug_gnu_pubtypes".as_slice(),
+        Err(_) => false,
+    }
+}
+
+/// Whether the section at an index is one of those that are read.
+fn is_read<C: ElfClass>(file: &File<'_, C>, info: Option<SectionIndex>, index: SectionIndex) -> bool
+    requires { option_map (λ i. i.0) info ≡ objects.info_section C.class file.now.bytes }
+    ensures { (header : List ℕ) → slice_get (sections C.class file.now.bytes) index.0 ≡ Some header → result ≡ objects.is_read C.class file.now.bytes (index.0, header) }
+{
+    match info {
+        Some(found) => found.0 == index.0 || is_names_section(file, index),
+        None => is_names_section(file, index),
+    }
+}
+
+/// The section whose units are read, by its index.
+fn info_section<C: ElfClass>(file: &File<'_, C>) -> Option<SectionIndex>
+    ensures { option_map (λ i. i.0) result ≡ objects.info_section C.class file.now.bytes }
+{
+    let (index, _) = file.section_by_name(DEBUG_INFO)?;
+    Some(index)
+}
+
+/// Whether a section is one of those that are read, and its bytes are compressed.
+fn is_compressed<C: ElfClass>(
+    file: &File<'_, C>,
+    info: Option<SectionIndex>,
+    index: SectionIndex,
+    header: &C::SectionHeader,
+) -> bool
+    requires info { option_map (λ i. i.0) info ≡ objects.info_section C.class file.now.bytes }
+    requires there { slice_get (sections C.class file.now.bytes) index.0 ≡ Some (C.SectionHeader.contents header.now) }
+    ensures { result ≡ (objects.is_read C.class file.now.bytes (index.0, C.SectionHeader.contents header.now) && has_flag (get (sh_flags C.class) (C.SectionHeader.contents header.now)) shf_compressed) }
+{
+    if header.sh_flags() & SHF_COMPRESSED == 0 {
+        return false;
+    }
+    is_read(file, info, index)
+}
+
+/// The lowest section, of the first `.debug_info` and the sections of names, whose bytes are compressed.
+#[tactic(auto, using(elf_format::proofs::SearchLemmas::rest_after, elf_format::proofs::SearchLemmas::item_at_front))]
+pub fn first_compressed<C: ElfClass>(file: &File<'_, C>) -> Option<SectionIndex>
+    ensures { option_map (λ i. i.0) result ≡ objects.first_compressed C.class file.now.bytes }
+{
+    let info = info_section(file);
+    for (index, header) in file.section_iter().enumerate() {
+        if is_compressed(file, info, SectionIndex(index), &header) {
+            return Some(SectionIndex(index));
+        }
+    }
+    None
+}
+
+/// The bytes of the first `.debug_info`, none where there is no such section. It is refused as `SectionData`
+/// exactly where they leave the file.
+pub fn debug_info<'a, C: ElfClass>(file: &File<'a, C>) -> Result<&'a [u8], ElfError>
+    ensures found { option_copied (result_ok result) ≡ objects.info_bytes C.class file.now.bytes }
+    ensures error { IfErr result (λ e. e ≡ SectionData) }
+{
+    let Some((_, header)) = file.section_by_name(DEBUG_INFO) else {
+        return Ok(&[]);
+    };
+    file.raw_section_data(&header)
+}
