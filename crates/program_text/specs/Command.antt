@@ -1,10 +1,11 @@
 -- What the words of a command line ask for:
 -- `tables MACHINE LAYOUT [--sframe FILE] [OBJECT ...]`, with at most 65,536 objects. Places of words count from 0.
-use Rattle.std.specs.Prelude.{ℕ, ◌+◌, Bool, List, [], ◌∷◌, ◌++◌, length, codes, if◌then◌else◌, nat_eq, nat_le, String, string_bytes, map, Option, Some, None, Result, Ok, Err}
+use Rattle.std.specs.Prelude.{◌≡◌, ℕ, ◌+◌, ◌<◌, ◌≤◌, ◌⊎◌, Bool, List, [], ◌∷◌, length, codes, if◌then◌else◌, nat_eq, nat_le, String, string_bytes, map, Option, Some, None, Result, Ok, Err, IsSome, option_map}
 use Rattle.std.specs.Cmp.Lexicographic.{pointwise}
 use Rattle.std.specs.declared.alloc.Global.{Global}
 use Rattle.elf_format.specs.declared.architecture.Architecture.{Architecture}
 use Rattle.elf_format.specs.declared.architecture.Architecture.TheVariants.{X86_64, AArch64, RiscV64, LoongArch64, Ppc64}
+use Rattle.program_text.specs.declared.command.Command.{Command}
 
 -- the bytes of each word
 abbrev pub words_of : List (String Global) → List (List ℕ)
@@ -82,22 +83,12 @@ abbrev pub command_of : List (List ℕ) → Result Tables ℕ
 command_of [] = Err 0
 command_of (command ∷ words) = if is_word command (codes "tables") then after_tables words else Err 0
 
--- a file's name, and the place of the word that is it
-pub record Named : Type 0 where
-  pub place : ℕ
-  pub name : List ℕ
+-- whether the word at a place names a file of a command
+abbrev pub NamesFile : Tables → ℕ → Type 0
+NamesFile tables place =
+    (place ≡ 2) ⊎ (((place ≡ 4) × IsSome tables.sframe) ⊎ ((first_object tables.sframe ≤ place) × (place < first_object tables.sframe + length tables.objects)))
 
--- the file of the option
-abbrev pub sframe_file : Option (List ℕ) → List Named
-sframe_file None = []
-sframe_file (Some file) = record { place = 4; name = file } ∷ []
-
--- the objects, from a place on
-abbrev pub object_files : ℕ → List (List ℕ) → List Named
-object_files place [] = []
-object_files place (object ∷ objects) = record { place = place; name = object } ∷ object_files (place + 1) objects
-
--- the files of a command, in the order of the words
-abbrev pub files_of : Tables → List Named
-files_of tables =
-    record { place = 2; name = tables.layout } ∷ sframe_file tables.sframe ++ object_files (first_object tables.sframe) tables.objects
+-- a command as it was read
+abbrev pub tables_of : Command → Tables
+tables_of command =
+    record { machine = command.machine; layout = command.layout.now; sframe = option_map (λ file. file.now) command.sframe; objects = words_of command.objects.now }

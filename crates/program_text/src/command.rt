@@ -1,8 +1,8 @@
 //! The words of the command line: `tables MACHINE LAYOUT [--sframe FILE] [OBJECT ...]`.
 //!
 //! Places of words count from 0, without the program's name. A command names at most 65,536 objects.
-ghost use Rattle.std.specs.Prelude.{◌≡◌, MatchResult, option_map};
-ghost use Rattle.program_text.specs.Command.{words_of, command_of, machine_of, with_objects, after_option, after_layout, first_object};
+ghost use Rattle.std.specs.Prelude.{◌≡◌, ◌≤◌, length, IfOk, MatchResult, option_map};
+ghost use Rattle.program_text.specs.Command.{words_of, tables_of, command_of, machine_of, with_objects, after_layout, first_object, object_limit};
 
 use elf_format::Architecture;
 
@@ -28,7 +28,7 @@ pub struct Command<'w> {
 impl Command<'_> {
     /// The place of the first word that names an object.
     pub fn first_object(&self) -> usize
-        ensures { result ≡ first_object (option_map (λ file. file.now) self.now.sframe) }
+        ensures { result ≡ first_object (tables_of self.now).sframe }
     {
         if self.sframe.is_some() { 5 } else { 3 }
     }
@@ -55,9 +55,10 @@ fn read_objects<'w>(
     sframe: Option<&'w str>,
     objects: &'w [String],
 ) -> Result<Command<'w>, usize>
-    ensures { MatchResult result
+    ensures few { IfOk result (λ c. length c.objects.now ≤ object_limit) }
+    ensures exactly { MatchResult result
         (λ c. with_objects machine layout.entry.now (option_map (λ file. file.now) sframe.entry) (words_of objects.entry.now)
-        ≡ Ok (record { machine = c.machine; layout = c.layout.now; sframe = option_map (λ file. file.now) c.sframe; objects = words_of c.objects.now }))
+        ≡ Ok (tables_of c))
         (λ place. with_objects machine layout.entry.now (option_map (λ file. file.now) sframe.entry) (words_of objects.entry.now) ≡ Err place) }
 {
     let command = Command {
@@ -78,9 +79,10 @@ fn read_files<'w>(
     layout: &'w str,
     words: &'w [String],
 ) -> Result<Command<'w>, usize>
-    ensures { MatchResult result
+    ensures few { IfOk result (λ c. length c.objects.now ≤ object_limit) }
+    ensures exactly { MatchResult result
         (λ c. after_layout machine layout.entry.now (words_of words.entry.now)
-        ≡ Ok (record { machine = c.machine; layout = c.layout.now; sframe = option_map (λ file. file.now) c.sframe; objects = words_of c.objects.now }))
+        ≡ Ok (tables_of c))
         (λ place. after_layout machine layout.entry.now (words_of words.entry.now) ≡ Err place) }
 {
     let [option, rest @ ..] = words else {
@@ -97,10 +99,11 @@ fn read_files<'w>(
 
 /// Reads the words of the command line, without the program's name. The error is the place of the first wrong or missing word.
 pub fn read_command(words: &[String]) -> Result<Command<'_>, usize>
-    ensures { MatchResult result
+    ensures exactly { MatchResult result
         (λ c. command_of (words_of words.now)
-        ≡ Ok (record { machine = c.machine; layout = c.layout.now; sframe = option_map (λ file. file.now) c.sframe; objects = words_of c.objects.now }))
+        ≡ Ok (tables_of c))
         (λ place. command_of (words_of words.now) ≡ Err place) }
+    ensures few { IfOk result (λ c. length c.objects.now ≤ object_limit) }
 {
     let [command, rest @ ..] = words else {
         return Err(0);
