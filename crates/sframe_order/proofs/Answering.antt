@@ -1,8 +1,7 @@
 -- From what was found to what the definitions ask.
-use Rattle.std.proofs.Common.{◌≡◌, ℕ, zero, suc, ◌+◌, ◌-◌, ◌*◌, ◌<◌, ◌≤◌, ◌^◌, Bool, true, false, not, eqb, ltb, cond, Option, Some, None, Result, Ok, Err, IfOk, IfErr, OnOk, List, [], ◌∷◌, length, get_or, refl, sym, ap, subst, ◌∙◌, arith}
-use Rattle.std.specs.List.{find, position, position_or_len, range_with_len}
+use Rattle.std.proofs.Common.{◌≡◌, ℕ, zero, suc, ◌+◌, ◌-◌, ◌*◌, ◌<◌, ◌^◌, Bool, true, false, not, eqb, ltb, cond, Option, Some, None, Result, Ok, Err, IfOk, IfErr, OnOk, List, [], ◌∷◌, length, refl, sym, ap, subst, ◌∙◌, arith}
+use Rattle.std.specs.List.{find, range_with_len}
 use Rattle.std.proofs.lemmas.Bool.Decides.{nat_tests}
-use Rattle.std.proofs.lemmas.List.Sums.{fails_before_first}
 use Rattle.std.proofs.lemmas.List.Elements.{All-nil, All-cons}
 use Rattle.elf_format.specs.declared.index.Span.{Span}
 use Rattle.sframe_format.specs.declared.fault.SframeFault.{SframeFault}
@@ -12,24 +11,12 @@ use Rattle.sframe_format.specs.declared.fault.LargeKind.TheVariants as kinds
 use Rattle.sframe_format.specs.Contribution.{Contribution, Function, header, descriptors_start, rows_start, row_offset, read_ones, other_version, functions}
 use Rattle.sframe_format.specs.Order.{InOrder}
 use Rattle.sframe_format.specs.Valid.{IsSound, AreSound, offset_fault, fault_of, first_fault, or_else, IsReadable, IsValid, IsMergeOf, HasRoom, StartsFit, HasCause}
-use Rattle.elf_format.specs.Span.{IsInside, AreInside, is_inside}
+use Rattle.elf_format.specs.Span.{AreInside}
 use Rattle.sframe_format.specs.Sorted.{SortOf}
 use Rattle.sframe_order.specs.declared.plan.Plan.{Plan}
 use Rattle.sframe_order.specs.declared.plan.Plan.TheVariants.{Keep, Write}
 use Rattle.sframe_order.specs.Plan.{IsPlan, IsMergePlan, IsMergeFault}
 use Rattle.sframe_order.proofs.OneOrder.{InOrder-unique, InOrder-none}
-
--- ---- ranges
-
-past_end : {X : Type 0} (p : X → Bool) (xs : List X) (b : Bool) → ltb (position_or_len p xs) (length xs) ≡ b → cond b (Some (position_or_len p xs)) None ≡ None → length xs ≤ position_or_len p xs
-past_end p xs true t e = cc
-past_end p xs false t e = grind (arith, nat_tests)
-
-inside_at : (n : ℕ) (r : Span) → not (is_inside n r) ≡ false → IsInside n r
-inside_at n r t = record { ordered = grind (arith, nat_tests); below = grind (arith, nat_tests) }
-
-pub inside_from_none : (n : ℕ) (rs : List Span) → position (λ r. not (is_inside n r)) rs ≡ None → AreInside n rs
-inside_from_none n rs e = λ k d b. inside_at n (get_or rs k d) (fails_before_first (λ r. not (is_inside n r)) rs k d (omega (arith, past_end (λ r. not (is_inside n r)) rs _ refl e)))
 
 -- ---- contributions
 
