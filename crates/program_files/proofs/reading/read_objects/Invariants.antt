@@ -1,0 +1,17 @@
+use Rattle.std.proofs.Common.{◌≡◌, ◌+◌, ◌≤◌, length}
+use Rattle.program_text.specs.Command.{words_of}
+use Rattle.program_files.proofs.ObjectLemmas.{ObjectsSoFar}
+use Rattle.program_files.proofs.reading.read_objects.Given as goal
+
+abbrev pub invariant-objects : goal.invariant-objects
+invariant-objects g l = record {
+  held : g.F.Files.held l.files ≡ g.F.Files.held l.initial.files;
+  steady : g.F.Files.steady l.files ≡ g.F.Files.steady l.initial.files;
+  faults : g.F.Files.faults l.initial.files ≤ g.F.Files.faults l.files;
+  taken : g.F.Files.taken l.initial.files ≤ g.F.Files.taken l.files;
+  place : l.place + length l.rest ≡ l.first + length l.names;
+  read : ObjectsSoFar (g.F.Files.held l.initial.files) l.first (words_of l.names) l.place (words_of l.rest) l.buffer.items l.objects.items (g.F.Files.taken l.initial.files) (g.F.Files.taken l.files);
+}
+
+abbrev pub decreases-objects : goal.decreases-objects
+decreases-objects g l = length l.rest

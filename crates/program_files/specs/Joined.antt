@@ -1,0 +1,13 @@
+-- Texts that stand one behind another in one buffer, each with its span.
+use Rattle.std.specs.Prelude.{ℕ, ◌+◌, List, [], ◌∷◌, ◌++◌, length}
+use Rattle.elf_format.specs.declared.index.Span.{Span}
+
+-- texts joined
+abbrev pub joined : List (List ℕ) → List ℕ
+joined [] = []
+joined (text ∷ texts) = text ++ joined texts
+
+-- the span of each text, where the first one begins at this place
+abbrev pub spans_from : ℕ → List (List ℕ) → List Span
+spans_from place [] = []
+spans_from place (text ∷ texts) = record { start = place; stop = place + length text } ∷ spans_from (place + length text) texts

@@ -1,0 +1,85 @@
+-- What the files of a command give, in the order of its words, where the files are told.
+use Rattle.std.specs.Prelude.{◌≡◌, ℕ, ◌+◌, ◌-◌, ◌^◌, ◌≤◌, List, [], ◌∷◌, ◌++◌, length, IfSome, map, if◌then◌else◌, nat_lt, Option, Some, None, Result, Ok, Err}
+use Rattle.program_io.specs.Contents.{Contents, file_of}
+use Rattle.program_io.specs.Counting.{RoseBy}
+use Rattle.program_text.specs.Command.{Tables, first_object}
+use Rattle.elf_format.specs.declared.index.Span.{Span}
+use Rattle.elf_format.specs.Span.{bytes_of}
+use Rattle.program_files.specs.Joined.{joined, spans_from}
+use Rattle.program_files.specs.declared.error.ReadError.{ReadError}
+use Rattle.program_files.specs.declared.error.ReadError.TheVariants.{Unread, TooLong}
+use Rattle.program_files.specs.declared.files_read.FilesRead.{FilesRead}
+
+-- names with the bytes of their files
+abbrev pub Held : Type 0
+Held = List (List ℕ × List ℕ)
+
+-- the most bytes that a file may have, and that all objects may have together
+abbrev pub file_limit : ℕ
+file_limit = 2 ^ 30
+
+-- the bytes of the files of a command
+pub record Texts : Type 0 where
+  pub layout : List ℕ
+  pub sframe : List ℕ
+  pub objects : List (List ℕ)
+
+-- the file of the word at a place: its bytes, where it is held and has no more than are left of the limit
+abbrev pub within : ℕ → ℕ → Option (List ℕ) → Result (List ℕ) ReadError
+within place left None = Err (Unread place)
+within place left (Some bytes) = if nat_lt left (length bytes) then Err (TooLong place) else Ok bytes
+
+-- the file behind the option: no bytes where there is none
+abbrev pub sframe_of : Held → Option (List ℕ) → Result (List ℕ) ReadError
+sframe_of held None = Ok []
+sframe_of held (Some name) = within 4 file_limit (file_of held name)
+
+-- bytes before those of others
+abbrev pub before : List ℕ → Result (List (List ℕ)) ReadError → Result (List (List ℕ)) ReadError
+before bytes (Ok others) = Ok (bytes ∷ others)
+before bytes (Err error) = Err error
+
+-- an object and those behind it
+abbrev pub first_of : Result (List ℕ) ReadError → (List ℕ → Result (List (List ℕ)) ReadError) → Result (List (List ℕ)) ReadError
+first_of (Err error) others = Err error
+first_of (Ok bytes) others = before bytes (others bytes)
+
+-- the objects that the words from a place on name: each leaves less of the limit for those behind it
+abbrev pub objects_of : Held → ℕ → ℕ → List (List ℕ) → Result (List (List ℕ)) ReadError
+objects_of held place left [] = Ok []
+objects_of held place left (name ∷ names) =
+    first_of (within place left (file_of held name)) (λ bytes. objects_of held (place + 1) (left - length bytes) names)
+
+-- the files together, or the first error
+abbrev pub texts_of : Result (List ℕ) ReadError → Result (List ℕ) ReadError → Result (List (List ℕ)) ReadError → Result Texts ReadError
+texts_of (Err error) sframe objects = Err error
+texts_of (Ok layout) (Err error) objects = Err error
+texts_of (Ok layout) (Ok sframe) (Err error) = Err error
+texts_of (Ok layout) (Ok sframe) (Ok objects) = Ok (record { layout = layout; sframe = sframe; objects = objects })
+
+-- the files of a command, or the first of them that is not held or is too long
+abbrev pub read_of : Held → Tables → Result Texts ReadError
+read_of held tables =
+    texts_of (within 2 file_limit (file_of held tables.layout)) (sframe_of held tables.sframe) (objects_of held (first_object tables.sframe) file_limit tables.objects)
+
+-- the files that were read
+abbrev pub texts_read : FilesRead → Texts
+texts_read read = record { layout = read.layout.items; sframe = read.sframe.items; objects = map (bytes_of read.buffer.items) read.objects.items }
+
+-- an object was read onto the end of the buffer, and its span was added
+pub record IsObjectRead (held : Contents) (place : ℕ) (name : List ℕ) (old new : List ℕ) (spans more : List Span) (taken now : ℕ) : Type 0 where
+  pub bytes : List ℕ
+  pub appended : new ≡ old ++ bytes
+  pub span : more ≡ spans ++ record { start = length old; stop = length old + length bytes } ∷ []
+  pub fits : length bytes ≤ file_limit - length old
+  pub took : RoseBy (length bytes) taken now
+  pub told : IfSome held (λ files. within place (file_limit - length old) (file_of files name) ≡ Ok bytes)
+
+-- objects stand in the buffer, each with its span
+pub record AreObjectsRead (held : Contents) (first : ℕ) (names : List (List ℕ)) (buffer : List ℕ) (spans : List Span) : Type 0 where
+  pub texts : List (List ℕ)
+  pub count : length texts ≡ length names
+  pub buffer_is : buffer ≡ joined texts
+  pub spans_are : spans ≡ spans_from 0 texts
+  pub fit : length buffer ≤ file_limit
+  pub told : IfSome held (λ files. objects_of files first file_limit names ≡ Ok texts)

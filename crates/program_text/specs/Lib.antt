@@ -1,0 +1,4 @@
+pub mod Command
+pub mod Layout
+pub mod Lines
+pub mod Report

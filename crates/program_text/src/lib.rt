@@ -1,0 +1,15 @@
+//! The texts of the program: the words of its command line, the layout that a linker hands in, and the report that it writes.
+//!
+//! Each has its definition in `specs/`. A text is a list of lines, and every number is decimal or lower-case hexadecimal.
+#![tactic(auto)]
+
+mod command;
+mod layout;
+mod report;
+
+pub use command::{Command, read_command};
+pub use layout::{Layout, LayoutError, read_layout};
+pub use report::report_text;
+
+#[cfg(test)]
+mod tests;

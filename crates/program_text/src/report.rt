@@ -1,0 +1,173 @@
+//! The report: units, names with their words, the outcome for the SFrame section, and the bytes of both tables, 32 a line.
+//!
+//! Every line ends with a line feed. Numbers are decimal, bytes and the words of names lower-case hexadecimal. It is built in one buffer.
+ghost use Rattle.std.specs.Prelude.{◌≡◌, ◌++◌, ◌∷◌, [], length, take, drop, codes, map, IfOk, OnOk};
+ghost use Rattle.std.specs.List.{flat_map};
+ghost use Rattle.hex.specs.Hex.{encode_lower};
+ghost use Rattle.program_text.specs.Lines.{text_of};
+ghost use Rattle.program_text.specs.Report.{fields, unit_lines, name_digits, word_digits, name_line, outcome_line, byte_lines, section_lines, report_of};
+
+use gdb_index_format::{CuBoundary, NameWords};
+use itoa::Buffer;
+use sframe_format::SframeOutcome;
+use std::alloc::{AllocError, Global};
+
+/// How many bytes a line shows.
+const ROW: usize = 32;
+
+/// Appends a line of words and numbers.
+fn push_fields(out: &mut Vec<u8>, words: &str, numbers: &[u64]) -> Result<(), AllocError>
+    ensures ok { OnOk result (out.new.items ≡ out.old.items ++ text_of (fields words.now numbers.now ∷ [])) }
+{
+    out.extend_from_slice(words.as_bytes())?;
+    let mut buffer = Buffer::new();
+    let mut rest = numbers;
+    while let [number, after @ ..] = rest {
+        out.extend_from_slice(b" ")?;
+        out.extend_from_slice(buffer.format(*number).as_bytes())?;
+        rest = after;
+    }
+    out.extend_from_slice(b"\n")?;
+    Ok(())
+}
+
+/// Appends the line of each unit, numbered from 0.
+fn push_units(out: &mut Vec<u8>, units: &[CuBoundary]) -> Result<(), AllocError>
+    ensures ok { OnOk result (out.new.items ≡ out.old.items ++ text_of (unit_lines 0 units.now)) }
+{
+    for (number, unit) in units.iter().enumerate() {
+        push_fields(out, "unit", &[number as u64, unit.offset, unit.length])?;
+    }
+    Ok(())
+}
+
+/// Appends the digits of bytes.
+#[tactic(auto, unfolding(hex::specs::Hex::encode_with))]
+fn push_digits(out: &mut Vec<u8>, bytes: &[u8]) -> Result<(), AllocError>
+    ensures ok { OnOk result (out.new.items ≡ out.old.items ++ encode_lower bytes.now) }
+{
+    let mut rest = bytes;
+    while let [byte, after @ ..] = rest {
+        let mut digits = [0u8; 2];
+        hex::encode_to_slice([*byte], &mut digits).unwrap();
+        out.extend_from_slice(&digits)?;
+        rest = after;
+    }
+    Ok(())
+}
+
+/// Appends the eight digits of each word, each behind a space.
+fn push_words(out: &mut Vec<u8>, words: &[u32]) -> Result<(), AllocError>
+    ensures ok { OnOk result (out.new.items ≡ out.old.items ++ flat_map (λ word. codes " " ++ word_digits word) words.now) }
+{
+    let mut rest = words;
+    while let [word, after @ ..] = rest {
+        out.extend_from_slice(b" ")?;
+        let mut digits = [0u8; 8];
+        hex::encode_to_slice(word.to_be_bytes(), &mut digits).unwrap();
+        out.extend_from_slice(&digits)?;
+        rest = after;
+    }
+    Ok(())
+}
+
+/// Appends the line of a name with its words.
+fn push_name(out: &mut Vec<u8>, named: &NameWords<'_>) -> Result<(), AllocError>
+    ensures ok { OnOk result (out.new.items ≡ out.old.items ++ text_of (name_line named.now ∷ [])) }
+{
+    out.extend_from_slice(b"name ")?;
+    if named.name.is_empty() {
+        out.extend_from_slice(b"-")?;
+    } else {
+        push_digits(out, named.name)?;
+    }
+    push_words(out, &named.words)?;
+    out.extend_from_slice(b"\n")?;
+    Ok(())
+}
+
+/// Appends the line of each name.
+fn push_names(out: &mut Vec<u8>, names: &[NameWords<'_>]) -> Result<(), AllocError>
+    ensures ok { OnOk result (out.new.items ≡ out.old.items ++ text_of (map name_line names.now)) }
+{
+    let mut rest = names;
+    while let [named, after @ ..] = rest {
+        push_name(out, named)?;
+        rest = after;
+    }
+    Ok(())
+}
+
+/// Appends the line of the outcome.
+fn push_outcome(out: &mut Vec<u8>, outcome: SframeOutcome) -> Result<(), AllocError>
+    ensures ok { OnOk result (out.new.items ≡ out.old.items ++ text_of (outcome_line outcome ∷ [])) }
+{
+    match outcome {
+        SframeOutcome::Sorted { used } => push_fields(out, "outcome sorted", &[used as u64]),
+        SframeOutcome::NoDescriptors => push_fields(out, "outcome none", &[]),
+        SframeOutcome::OtherVersion(version) => {
+            push_fields(out, "outcome version", &[u64::from(version)])
+        }
+    }
+}
+
+/// The bytes of the first line, and those behind it.
+fn split_row(bytes: &[u8]) -> (&[u8], &[u8])
+    ensures row { result.0.now ≡ take ROW bytes.now }
+    ensures after { result.1.now ≡ drop ROW bytes.now }
+{
+    if bytes.len() < ROW {
+        (bytes, &[])
+    } else {
+        bytes.split_at(ROW)
+    }
+}
+
+/// Appends bytes, 32 a line.
+fn push_rows(out: &mut Vec<u8>, bytes: &[u8]) -> Result<(), AllocError>
+    ensures ok { OnOk result (out.new.items ≡ out.old.items ++ text_of (byte_lines bytes.now)) }
+{
+    let mut rest = bytes;
+    'rows: while !rest.is_empty() {
+        let (row, after) = split_row(rest);
+        push_digits(out, row)?;
+        out.extend_from_slice(b"\n")?;
+        rest = after;
+    }
+    Ok(())
+}
+
+/// Appends the lines of a section: its name and length, then its bytes.
+fn push_section(out: &mut Vec<u8>, name: &str, bytes: &[u8]) -> Result<(), AllocError>
+    ensures ok { OnOk result (out.new.items ≡ out.old.items ++ text_of (section_lines name.now bytes.now)) }
+{
+    push_fields(out, name, &[bytes.len() as u64])?;
+    push_rows(out, bytes)?;
+    Ok(())
+}
+
+/// The report of a run, as a text of lines:
+///
+/// `units N`; for each unit `unit K OFFSET LENGTH`, with K from 0; `names N`; for each name `name HEX` and its words in eight digits each, by
+/// spaces, where HEX is `-` for the empty name; `outcome sorted USED`, `outcome none` or `outcome version V`; `index LENGTH` and the bytes
+/// of the index, 32 a line; `sframe LENGTH` and the bytes of the SFrame section, 32 a line.
+pub fn report_text(
+    alloc: Global,
+    units: &[CuBoundary],
+    names: &[NameWords<'_>],
+    outcome: SframeOutcome,
+    index: &[u8],
+    sframe: &[u8],
+) -> Result<Vec<u8>, AllocError>
+    ensures { IfOk result (λ text. text.items ≡ report_of units.now names.now outcome index.now sframe.now) }
+{
+    let mut out = Vec::new(alloc);
+    push_fields(&mut out, "units", &[units.len() as u64])?;
+    push_units(&mut out, units)?;
+    push_fields(&mut out, "names", &[names.len() as u64])?;
+    push_names(&mut out, names)?;
+    push_outcome(&mut out, outcome)?;
+    push_section(&mut out, "index", index)?;
+    push_section(&mut out, "sframe", sframe)?;
+    Ok(out)
+}

@@ -1,0 +1,97 @@
+use super::*;
+use elf_format::Architecture;
+use gdb_index_format::{CuBoundary, NameWords};
+use sframe_format::SframeOutcome;
+use std::alloc::Global;
+use std::test::Fail;
+
+/// The words of a line, which stand between spaces.
+fn words_of(alloc: Global, line: &str) -> Result<Vec<String>, Fail> {
+    let mut words = Vec::new(alloc);
+    for word in line.split_whitespace() {
+        words.push(String::from_str(alloc, word)?)?;
+    }
+    Ok(words)
+}
+
+#[test]
+fn wrong_words(rt: HostRuntime) -> Result<(), Fail> {
+    let alloc = rt.alloc();
+    for (line, place) in [
+        ("", 0),
+        ("table x86_64 l", 0),
+        ("tables", 1),
+        ("tables arm", 1),
+        ("tables x86_64", 2),
+        ("tables x86_64 l --sframe", 4),
+    ] {
+        let words = words_of(alloc, line)?;
+        assert_eq!(rt; read_command(&words).err(), Some(place));
+    }
+    Ok(())
+}
+
+#[test]
+fn good_words(rt: HostRuntime) -> Result<(), Fail> {
+    let alloc = rt.alloc();
+    let words = words_of(alloc, "tables ppc64 l --sframe s o --sframe")?;
+    assert_eq!(rt;
+        read_command(&words).map(|command| (command.machine, command.layout, command.sframe)),
+        Ok((Architecture::Ppc64, "l", Some("s")))
+    );
+    assert_eq!(rt;
+        read_command(&words).map(|command| (command.objects.len(), command.first_object())),
+        Ok((2, 5))
+    );
+    Ok(())
+}
+
+#[test]
+fn layouts(rt: HostRuntime) -> Result<(), Fail> {
+    let alloc = rt.alloc();
+    for (text, wrong) in [
+        ("", None),
+        ("\n# a comment\n\n#", None),
+        ("place 0 3 4096", Some(LayoutError::BadLine(1))),
+        ("\n#\n \n", Some(LayoutError::BadLine(3))),
+    ] {
+        assert_eq!(rt; read_layout(alloc, text.as_bytes()).err(), wrong);
+    }
+    Ok(())
+}
+
+#[test]
+fn a_report(rt: HostRuntime) -> Result<(), Fail> {
+    let alloc = rt.alloc();
+    let units = [CuBoundary {
+        offset: 0,
+        length: 64,
+    }];
+    let mut names = Vec::new(alloc);
+    names.push(NameWords {
+        name: b"alpha",
+        words: [0x3000_0000, 0xb000_0001].to_vec(alloc)?,
+    })?;
+    names.push(NameWords {
+        name: b"",
+        words: [0x9000_0000].to_vec(alloc)?,
+    })?;
+    let text = report_text(
+        alloc,
+        &units,
+        &names,
+        SframeOutcome::Sorted { used: 74 },
+        &[0x0a; 33],
+        &[],
+    )?;
+    assert_eq!(rt;
+        text.as_slice(),
+        b"units 1\nunit 0 0 64\nnames 2\nname 616c706861 30000000 b0000001\nname - 90000000\noutcome sorted 74\nindex 33\n0a0a0a0a0a0a0a0a0a0a0a0a0a0a0a0a0a0a0a0a0a0a0a0a0a0a0a0a0a0a0a0a\n0a\nsframe 0\n".as_slice()
+    );
+    let empty = report_text(alloc, &[], &[], SframeOutcome::NoDescriptors, &[], &[])?;
+    assert_eq!(rt;
+        empty.as_slice(),
+        b"units 0\nnames 0\noutcome none\nindex 0\nsframe 0\n".as_slice()
+    );
+    Ok(())
+}
