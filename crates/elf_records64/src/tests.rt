@@ -19,12 +19,20 @@ fn counting() -> [u8; 64] {
 fn fields_of_headers(rt: HostRuntime) {
     let bytes = counting();
     let file = FileHeader64::read(&bytes).unwrap_or_default();
-    let found = [u64::from(file.e_machine()), file.e_shoff(), u64::from(file.e_shstrndx())];
+    let found = [
+        u64::from(file.e_machine()),
+        file.e_shoff(),
+        u64::from(file.e_shstrndx()),
+    ];
     assert!(rt; found == [0x1312, 0x2f2e_2d2c_2b2a_2928, 0x3f3e]);
     let section = SectionHeader64::read(&bytes).unwrap_or_default();
-    assert!(rt; [u64::from(section.sh_type()), section.sh_size()] == [0x0706_0504, 0x2726_2524_2322_2120]);
+    assert!(rt;
+        [u64::from(section.sh_type()), section.sh_size()] == [0x0706_0504, 0x2726_2524_2322_2120]
+    );
     let segment = ProgramHeader64::read(&bytes).unwrap_or_default();
-    assert!(rt; [u64::from(segment.p_flags()), segment.p_align()] == [0x0706_0504, 0x3736_3534_3332_3130]);
+    assert!(rt;
+        [u64::from(segment.p_flags()), segment.p_align()] == [0x0706_0504, 0x3736_3534_3332_3130]
+    );
     let compressed = CompressionHeader64::read(&bytes).unwrap_or_default();
     assert!(rt; compressed.ch_size() == 0x0f0e_0d0c_0b0a_0908);
 }

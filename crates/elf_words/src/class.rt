@@ -204,8 +204,7 @@ pub trait ElfClass: Copy {
 
     ghost note_header_size_is: { Self.NoteHeader.SIZE ≡ note_header_size };
 
-    ghost sizes_are: {
-        (FILE_HEADER_SIZE ≡ Self.FileHeader.SIZE)
+    ghost sizes_are: { (FILE_HEADER_SIZE ≡ Self.FileHeader.SIZE)
         × (PROGRAM_HEADER_SIZE ≡ Self.ProgramHeader.SIZE)
         × (SECTION_HEADER_SIZE ≡ Self.SectionHeader.SIZE)
         × (ADDRESS_SIZE ≡ Self.Word.BYTES)
@@ -215,11 +214,9 @@ pub trait ElfClass: Copy {
         × (SYMTAB_ENTRY_SIZE ≡ Self.Sym.SIZE)
         × (DYNAMIC_ENTRY_SIZE ≡ Self.Dyn.SIZE)
         × (NOTE_HEADER_SIZE ≡ Self.NoteHeader.SIZE)
-        × (GNU_HASH_BLOOM_SIZE ≡ Self.Word.BYTES)
-    };
+        × (GNU_HASH_BLOOM_SIZE ≡ Self.Word.BYTES) };
 
-    ghost alignments_are: {
-        (ADDRESS_ALIGNMENT ≡ Self.Word.BYTES)
+    ghost alignments_are: { (ADDRESS_ALIGNMENT ≡ Self.Word.BYTES)
         × (PROGRAM_HEADER_ALIGNMENT ≡ Self.Word.BYTES)
         × (SECTION_HEADER_ALIGNMENT ≡ Self.Word.BYTES)
         × (GOT_ENTRY_ALIGNMENT ≡ Self.Word.BYTES)
@@ -229,8 +226,7 @@ pub trait ElfClass: Copy {
         × (SYMTAB_ENTRY_ALIGNMENT ≡ Self.Word.BYTES)
         × (VERSION_D_ALIGNMENT ≡ Self.Word.BYTES)
         × (VERSION_R_ALIGNMENT ≡ Self.Word.BYTES)
-        × (GNU_PROPERTY_ALIGNMENT ≡ Self.Word.BYTES)
-    };
+        × (GNU_PROPERTY_ALIGNMENT ≡ Self.Word.BYTES) };
 }
 
 /// A symbol that names its class.

@@ -5,7 +5,10 @@ use super::*;
 #[test]
 fn alignments(rt: HostRuntime) {
     for (value, expected) in [(0, Some(1)), (1, Some(1)), (8, Some(8)), (12, None)] {
-        assert!(rt; Alignment::new(value).ok().map(Alignment::value) == expected, "{value}");
+        assert!(rt;
+            Alignment::new(value).ok().map(Alignment::value) == expected,
+            "{value}"
+        );
     }
     if let (Ok(eight), Ok(sixteen)) = (Alignment::new(8), Alignment::new(16)) {
         assert!(rt; eight.align_up(13) == 16);
@@ -46,10 +49,18 @@ fn words_and_bits(rt: HostRuntime) {
     assert!(rt; u32_from_slice(&[1, 2, 0, 0, 9]) == 0x201);
     assert!(rt; u64_from_slice(&[1, 0, 0, 0, 0, 0, 0, 1]) == 0x0100_0000_0000_0001);
     for (from, to, expected) in [(0, 64, 0xf0), (4, 6, 3), (4, 8, 15), (64, 64, 0), (3, 3, 0)] {
-        assert!(rt; extract_bit_range(0xf0, from, to) == expected, "{from} {to}");
+        assert!(rt;
+            extract_bit_range(0xf0, from, to) == expected,
+            "{from} {to}"
+        );
     }
     let word: Result<u32, FieldError> = ElfWord::from_u64(1 << 32);
-    assert!(rt; word == Err(FieldError::DoesNotFit { field: Field::Word, value: 1 << 32 }));
+    assert!(rt;
+        word == Err(FieldError::DoesNotFit {
+            field: Field::Word,
+            value: 1 << 32
+        })
+    );
 }
 
 #[test]
