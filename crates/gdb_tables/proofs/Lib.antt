@@ -6,3 +6,6 @@ pub mod Windows
 pub mod Causes
 pub mod Gathering
 pub mod Sounding
+pub mod Publishing
+pub mod Listing
+pub mod Merging

@@ -2,8 +2,8 @@ pub mod Groups
 pub mod Marks
 pub mod Section
 pub mod Scan
-pub mod Named
 pub mod PlacedIn
 pub mod Cause
 pub mod Gathered
 pub mod Scanned
+pub mod Merged

@@ -55,6 +55,10 @@ units_in_scans ss = flat_map units_in_scan ss
 abbrev pub placed_total : List (Option ObjectScan) → ℕ
 placed_total ss = sum (map placed_in_scan ss)
 
+-- the names of a scan are sound for its units
+abbrev pub HasSoundNames : Option ObjectScan → Type 0
+HasSoundNames s = AllByRecursion (IsObjectName (length (units_in_scan s))) (names_in_scan s)
+
 -- the word of a mark, where the object's first unit has the number `first`
 abbrev pub mark_word : ℕ → Mark → ℕ
 mark_word first m = word_of (first + m.unit) m.flag

@@ -5,10 +5,10 @@
 
 mod error;
 mod mark;
+mod merge;
 mod names;
 mod object_names;
 mod object_scan;
-mod object_sections;
 mod placed;
 mod scan;
 
@@ -23,5 +23,6 @@ pub use gdb_sections::{
     PubnamesSet, SetError, UnitError, cu_index_for_offset, parse_cu_boundaries, parse_pubnames_sets,
 };
 pub use mark::{Mark, NameMarks};
+pub use merge::merge_gdb_index_scans;
 pub use object_scan::PerObjectScan;
 pub use scan::scan_one_object;

@@ -19,8 +19,8 @@ use crate::error::{GdbError, of_names, of_units};
 use crate::mark::Mark;
 use crate::object_names::{listed, publish_section};
 use crate::object_scan::PerObjectScan;
-use crate::object_sections::{first_compressed_section, info_data, is_names_section};
 use crate::placed::{count_placed, placements_of};
+use debug_sections::{debug_info, first_compressed, is_names_section};
 use elf_view::File;
 use elf_words::{ElfClass, SectionIndex};
 use gdb_index_format::{CuBoundary, Placement};
@@ -37,7 +37,7 @@ fn read_units<C: ElfClass>(
     ensures units { IfOk result (λ units. IsUnitsOf C.class file.now.bytes units.items) }
     ensures cause { IfErr result (IsUnitCause C.class object file.now.bytes) }
 {
-    let bytes = match info_data(file) {
+    let bytes = match debug_info(file) {
         Ok(bytes) => bytes,
         Err(error) => return Err(GdbError::BadElf(object, error)),
     };
@@ -128,7 +128,7 @@ pub fn scan_one_object<'a, C: ElfClass>(
     ensures cause { IfErr result (IsScanCause C.class object file.now.bytes) }
     ensures complete { (o : Object) → IsObjectOf C.class file.now.bytes o → first_compressed C.class file.now.bytes ≡ None → IfErr result IsOnlyMemory }
 {
-    if let Some(section) = first_compressed_section(file) {
+    if let Some(section) = first_compressed(file) {
         return Err(GdbError::CompressedSection(object, section));
     }
     let units = read_units(alloc, object, file)?;

@@ -4,7 +4,7 @@ use Rattle.std.proofs.lemmas.Result.{err_from_is_err_and}
 use Rattle.elf_format.specs.Section.{sections}
 use Rattle.gdb_tables.specs.Groups.{shown}
 use Rattle.gdb_tables.specs.Cause.{IsNamesCause, leaves, no_sets}
-use Rattle.gdb_tables.proofs.SectionSearch.{next_step, stands, one_more_done, names_tested}
+use Rattle.gdb_tables.proofs.SectionSearch.{next_step, stands, one_more_done}
 use Rattle.gdb_tables.proofs.Causes.{holds_of, no_bytes, bad_elf}
 use Rattle.gdb_tables.proofs.Gathering.{gathers_other, gathers_more, first_bad}
 use Rattle.gdb_tables.proofs.scan.gather_names.Goals as goal
@@ -17,7 +17,7 @@ loop-index-preserved-then-not-is_names_section g c =
     let inv = c.loop-index.invariant.parts in
     let here : c.loop-index.index-iterator ≡ s ∷ c.next.new.self = next_step (λ item. (item.0.0, g.C.SectionHeader.Record.contents item.1)) c.loop-index.index-iterator c.next.new.self c.next.result (c.in-Some.index, c.in-Some.header) c.in-Some.is c.next.ensures.steps in
     let whole = ap (λ l. inv.0 ++ l) (sym here) ∙ inv.1 in
-    let test = names_tested class file s.0 s.1 c.is_names_section.result (stands inv.0 s.0 s.1 c.next.new.self (sections class file) whole) c.is_names_section.ensures in
+    let test = c.is_names_section.ensures s.1 (stands inv.0 s.0 s.1 c.next.new.self (sections class file) whole) in
     let failed : c.is_names_section.result ≡ false = grind arith in
     record { parts = (inv.0 ++ s ∷ [], one_more_done inv.0 s c.next.new.self _ whole, gathers_other class file c.args.units.now inv.0 s _ (sym test ∙ failed) inv.2) }
 
@@ -29,7 +29,7 @@ returns-in_err-bytes-clause-cause g c =
     let inv = c.loop-index.invariant.parts in
     let here : c.loop-index.index-iterator ≡ s ∷ c.next.new.self = next_step (λ item. (item.0.0, g.C.SectionHeader.Record.contents item.1)) c.loop-index.index-iterator c.next.new.self c.next.result (c.in-Some.index, c.in-Some.header) c.in-Some.is c.next.ensures.steps in
     let whole = ap (λ l. inv.0 ++ l) (sym here) ∙ inv.1 in
-    let test = names_tested class file s.0 s.1 c.is_names_section.result (stands inv.0 s.0 s.1 c.next.new.self (sections class file) whole) c.is_names_section.ensures in
+    let test = c.is_names_section.ensures s.1 (stands inv.0 s.0 s.1 c.next.new.self (sections class file) whole) in
     let passed : c.is_names_section.result ≡ true = grind arith in
     let p = err_from_is_err_and c.from_residual.result c.from_residual.ensures.1 in
     let none = no_bytes c.names_data.result c.in_err-bytes.field-0.0 _ (c.in_err-bytes.was {u = tt}) c.names_data.ensures.found in
@@ -45,7 +45,7 @@ loop-index-preserved g c =
     let inv = c.loop-index.invariant.parts in
     let here : c.loop-index.index-iterator ≡ s ∷ c.next.new.self = next_step (λ item. (item.0.0, g.C.SectionHeader.Record.contents item.1)) c.loop-index.index-iterator c.next.new.self c.next.result (c.in-Some.index, c.in-Some.header) c.in-Some.is c.next.ensures.steps in
     let whole = ap (λ l. inv.0 ++ l) (sym here) ∙ inv.1 in
-    let test = names_tested class file s.0 s.1 c.is_names_section.result (stands inv.0 s.0 s.1 c.next.new.self (sections class file) whole) c.is_names_section.ensures in
+    let test = c.is_names_section.ensures s.1 (stands inv.0 s.0 s.1 c.next.new.self (sections class file) whole) in
     let passed : c.is_names_section.result ≡ true = grind arith in
     record { parts = (inv.0 ++ s ∷ [], one_more_done inv.0 s c.next.new.self _ whole, gathers_more class file c.args.units.now inv.0 s c.in_ok-bytes.bytes.now (shown c.loop-index.names.entries) (shown c.publish_names.new.names.entries) (sym test ∙ passed) (sym c.in_ok-bytes.ensures.found) c.in_ok-publish_names.ensures.published inv.2) }
 
@@ -57,7 +57,7 @@ returns-in_err-publish_names-clause-cause g c =
     let inv = c.loop-index.invariant.parts in
     let here : c.loop-index.index-iterator ≡ s ∷ c.next.new.self = next_step (λ item. (item.0.0, g.C.SectionHeader.Record.contents item.1)) c.loop-index.index-iterator c.next.new.self c.next.result (c.in-Some.index, c.in-Some.header) c.in-Some.is c.next.ensures.steps in
     let whole = ap (λ l. inv.0 ++ l) (sym here) ∙ inv.1 in
-    let test = names_tested class file s.0 s.1 c.is_names_section.result (stands inv.0 s.0 s.1 c.next.new.self (sections class file) whole) c.is_names_section.ensures in
+    let test = c.is_names_section.ensures s.1 (stands inv.0 s.0 s.1 c.next.new.self (sections class file) whole) in
     let passed : c.is_names_section.result ≡ true = grind arith in
     let p = err_from_is_err_and c.from_residual-in_err-publish_names.result c.from_residual-in_err-publish_names.ensures.1 in
     holds_of (IsNamesCause class c.args.object file) c.from_residual-in_err-publish_names.result c.in_err-publish_names.field-0.0 (p.1 ∙ ap (λ e. Err e) p.2)

@@ -19,14 +19,14 @@ use Rattle.gdb_tables.proofs.Sounding.{units_ascend, placed_few, sound_scan, sca
 use Rattle.gdb_tables.proofs.scan.scan_one_object.Goals as goal
 
 pub returns-in-Some-clause-cause : goal.returns-in-Some-clause-cause
-returns-in-Some-clause-cause g c = compressed c.in-Some.section (sym c.first_compressed_section.ensures ∙ ap (option_map (λ (i : SectionIndex). i.0)) c.in-Some.is)
+returns-in-Some-clause-cause g c = compressed c.in-Some.section (sym c.first_compressed.ensures ∙ ap (option_map (λ (i : SectionIndex). i.0)) c.in-Some.is)
 
 pub returns-in_err-units-clause-cause : goal.returns-in_err-units-clause-cause
 returns-in_err-units-clause-cause g c =
     let class = g.C.ElfClass.class in
     let file = c.args.file.now.bytes in
     let object = c.args.object in
-    let plain : first_compressed class file ≡ None = sym c.first_compressed_section.ensures ∙ ap (option_map (λ (i : SectionIndex). i.0)) c.in_default.is in
+    let plain : first_compressed class file ≡ None = sym c.first_compressed.ensures ∙ ap (option_map (λ (i : SectionIndex). i.0)) c.in_default.is in
     let p = err_from_is_err_and c.from_residual.result c.from_residual.ensures.1 in
     holds_of (IsScanCause class object file) c.from_residual.result c.in_err-units.field-0.0 (p.1 ∙ ap (λ e. Err e) p.2) (in_units c.in_err-units.field-0.0 plain c.in_err-units.ensures.cause)
 
@@ -38,7 +38,7 @@ returns-then-is_empty-clause-scan g c =
     let class = g.C.ElfClass.class in
     let file = c.args.file.now.bytes in
     let object = c.args.object in
-    let plain : first_compressed class file ≡ None = sym c.first_compressed_section.ensures ∙ ap (option_map (λ (i : SectionIndex). i.0)) c.in_default.is in
+    let plain : first_compressed class file ≡ None = sym c.first_compressed.ensures ∙ ap (option_map (λ (i : SectionIndex). i.0)) c.in_default.is in
     let us = c.in_ok-units.units.items in
     let units = c.in_ok-units.ensures.units in
     let none : length us ≡ 0 = grind (arith, common_steps) in
@@ -52,7 +52,7 @@ returns-in_err-names-clause-cause g c =
     let class = g.C.ElfClass.class in
     let file = c.args.file.now.bytes in
     let object = c.args.object in
-    let plain : first_compressed class file ≡ None = sym c.first_compressed_section.ensures ∙ ap (option_map (λ (i : SectionIndex). i.0)) c.in_default.is in
+    let plain : first_compressed class file ≡ None = sym c.first_compressed.ensures ∙ ap (option_map (λ (i : SectionIndex). i.0)) c.in_default.is in
     let us = c.in_ok-units.units.items in
     let units = c.in_ok-units.ensures.units in
     let some : 0 < length us = grind (arith, common_steps) in
@@ -86,7 +86,7 @@ returns-clause-scan g c =
     let class = g.C.ElfClass.class in
     let file = c.args.file.now.bytes in
     let object = c.args.object in
-    let plain : first_compressed class file ≡ None = sym c.first_compressed_section.ensures ∙ ap (option_map (λ (i : SectionIndex). i.0)) c.in_default.is in
+    let plain : first_compressed class file ≡ None = sym c.first_compressed.ensures ∙ ap (option_map (λ (i : SectionIndex). i.0)) c.in_default.is in
     let us = c.in_ok-units.units.items in
     let units = c.in_ok-units.ensures.units in
     let some : 0 < length us = grind (arith, common_steps) in

@@ -1,0 +1,9 @@
+use Rattle.std.proofs.Common.{◌≡◌, ◌+◌, ◌*◌, ◌≤◌, ◌++◌, [], drop, length, map, take, ◌^◌}
+use Rattle.gdb_tables.specs.Scan.{placed_total}
+use Rattle.gdb_tables.proofs.merge.count_placed.Given as goal
+
+abbrev pub invariant-loop-scan : goal.invariant-loop-scan
+invariant-loop-scan l = record {
+  left : l.count + placed_total (drop l.scan-index l.scans) ≡ placed_total l.scans;
+  small : l.count ≤ l.scan-index * 2 ^ 39;
+}

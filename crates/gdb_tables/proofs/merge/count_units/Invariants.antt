@@ -1,0 +1,9 @@
+use Rattle.std.proofs.Common.{◌≡◌, ◌+◌, ◌*◌, ◌≤◌, ◌++◌, [], drop, length, map, take, ◌^◌}
+use Rattle.gdb_tables.specs.Scan.{unit_total}
+use Rattle.gdb_tables.proofs.merge.count_units.Given as goal
+
+abbrev pub invariant-loop-scan : goal.invariant-loop-scan
+invariant-loop-scan l = record {
+  left : l.count + unit_total (drop l.scan-index l.scans) ≡ unit_total l.scans;
+  small : l.count ≤ l.scan-index * 2 ^ 37;
+}

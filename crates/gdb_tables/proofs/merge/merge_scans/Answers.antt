@@ -1,0 +1,40 @@
+use Rattle.std.proofs.Common.{◌≡◌, ◌^◌, ◌≤◌, subst, sym, ap, ◌∙◌, arith}
+use Rattle.gdb_index.specs.Scan.{Scan}
+use Rattle.gdb_index_format.specs.Named.{all_named, ListsPublished}
+use Rattle.gdb_index_format.specs.Published.{published}
+use Rattle.gdb_tables.specs.Groups.{groups}
+use Rattle.gdb_tables.specs.Merged.{AreSorted, IsMergeOf}
+use Rattle.gdb_tables.specs.Scan.{unit_total, words_from}
+use Rattle.gdb_tables.proofs.Listing.{lists_of_scans, lists_of_objects}
+use Rattle.gdb_tables.proofs.Merging.{sound_merge}
+use Rattle.gdb_tables.proofs.merge.merge_scans.Goals as goal
+
+pub new-requires : goal.new-requires
+new-requires c =
+    let ss = c.args.scans.now in
+    let few : unit_total ss ≤ 2 ^ 24 = omega (arith, c.count_units-count.ensures, c.if-count-gt-MAX_UNITS.false) in
+    let ns = all_named c.in_ok-names.names.items in
+    let sorted : AreSorted (groups (words_from 0 ss)) ns = subst (λ gs. AreSorted gs ns) c.in_ok-words.ensures.words c.in_ok-names.ensures.sorted in
+    sound_merge ss c.in_ok-units.units.items ns c.count_placed-placed.result c.in_ok-counts.counts.items c.in_ok-units.ensures c.in_ok-counts.ensures few c.in_ok-words.ensures.sound sorted c.in_ok-names.ensures.fit
+
+pub returns-clause-merged : goal.returns-clause-merged
+returns-clause-merged c =
+    let ss = c.args.scans.now in
+    let few : unit_total ss ≤ 2 ^ 24 = omega (arith, c.count_units-count.ensures, c.if-count-gt-MAX_UNITS.false) in
+    let ns = all_named c.in_ok-names.names.items in
+    let sorted : AreSorted (groups (words_from 0 ss)) ns = subst (λ gs. AreSorted gs ns) c.in_ok-words.ensures.words c.in_ok-names.ensures.sorted in
+    subst (IsMergeOf ss) (sym c.new.ensures) record {
+      few = few;
+      units = c.in_ok-units.ensures;
+      counts = c.in_ok-counts.ensures;
+      placed = c.count_placed-placed.ensures;
+      names = lists_of_scans ss ns sorted;
+    }
+
+pub returns-clause-objects : goal.returns-clause-objects
+returns-clause-objects c = λ os scans.
+    let ss = c.args.scans.now in
+    let few : unit_total ss ≤ 2 ^ 24 = omega (arith, c.count_units-count.ensures, c.if-count-gt-MAX_UNITS.false) in
+    let ns = all_named c.in_ok-names.names.items in
+    let sorted : AreSorted (groups (words_from 0 ss)) ns = subst (λ gs. AreSorted gs ns) c.in_ok-words.ensures.words c.in_ok-names.ensures.sorted in
+    subst (ListsPublished (published os)) (sym (ap (λ (m : Scan). m.names) c.new.ensures)) (lists_of_objects os ss ns scans sorted)

@@ -1,0 +1,22 @@
+use Rattle.std.proofs.Common.{◌≡◌, ℕ, ◌+◌, ◌++◌, drop, sym, ap, ◌∙◌, arith}
+use Rattle.gdb_index_format.specs.Published.{one_behind_another}
+use Rattle.gdb_index_format.specs.Units.{total_length}
+use Rattle.gdb_tables.specs.Scan.{units_in_scan, units_in_scans}
+use Rattle.gdb_tables.proofs.Merging.{units_step}
+use Rattle.gdb_tables.proofs.merge.placed_units.Goals as goal
+
+pub loop-scan-preserved : goal.loop-scan-preserved
+loop-scan-preserved c =
+    let s = c.scan-item.result in
+    let done = c.loop-scan.units.items in
+    let place = c.loop-scan.place in
+    let rest = units_in_scans (drop (c.loop-scan.scan-index + 1) c.args.scans.now) in
+    let units = c.in_ok-place.ensures.units ∙ ap (λ us. done ++ one_behind_another place us) c.units_of.ensures.units in
+    let ends = c.in_ok-place.ensures.end ∙ ap (λ us. place + total_length us) c.units_of.ensures.units in
+    record {
+      left =
+          ap (λ us. us ++ one_behind_another c.in_ok-place.place rest) units
+          ∙ ap (λ (n : ℕ). (done ++ one_behind_another place (units_in_scan s)) ++ one_behind_another n rest) ends
+          ∙ units_step done _ place c.args.scans.now c.loop-scan.scan-index s c.loop-scan-test.true c.scan-item.is c.loop-scan.invariant.left;
+      small = omega (arith, c.in_ok-place.ensures.end, c.units_of.ensures.small, c.loop-scan.invariant.small);
+    }

@@ -1,0 +1,247 @@
+//! The merge of all objects' scans: the units of all objects get their numbers, and the names of all objects
+//! their words.
+
+ghost use Rattle.std.specs.Prelude.{◌≡◌, ℕ, List, ◌+◌, ◌*◌, ◌^◌, ◌<◌, ◌≤◌, ◌++◌, length, map, sum, OnOk, IfOk, IfErr};
+ghost use Rattle.std.specs.List.{All, AllByRecursion};
+ghost use Rattle.std.specs.List.Sorted.{IsPermutation, IsNonDecreasing};
+ghost use Rattle.gdb_index_format.specs.Named.{all_named, ListsPublished};
+ghost use Rattle.gdb_index_format.specs.Published.{Object, published, one_behind_another};
+ghost use Rattle.gdb_index_format.specs.Units.{total_length};
+ghost use Rattle.gdb_tables.specs.Groups.{shown, groups, add_all};
+ghost use Rattle.gdb_tables.specs.Marks.{groups_in};
+ghost use Rattle.gdb_tables.specs.Scan.{units_in_scan, names_in_scan, placed_in_scan, unit_counts, unit_total, units_in_scans, placed_total, mark_word, words_of_groups, words_from, HasSoundNames, AreScansOf};
+ghost use Rattle.gdb_tables.specs.Merged.{AreSorted, HaveSmallWords, IsMergeOf, IsMergeCause};
+
+use crate::error::GdbError;
+use crate::mark::{Mark, NameMarks};
+use crate::names::publish_list;
+use crate::object_scan::PerObjectScan;
+use gdb_index::{GdbIndexScanResult, encode_cu_vector_entry};
+use gdb_index_format::{CuBoundary, NameWords};
+use indexmap::IndexMap;
+use std::alloc::{AllocError, Global};
+
+/// The units of an object, none where it has no scan.
+fn units_of<'s>(scan: &'s Option<PerObjectScan<'_>>) -> &'s [CuBoundary]
+    ensures units { result.now ≡ units_in_scan scan.now }
+    ensures counted { 4 * length result.now ≤ total_length result.now }
+    ensures small { total_length result.now < 2 ^ 39 }
+{
+    match scan {
+        Some(scan) => scan.units(),
+        None => &[],
+    }
+}
+
+/// The names that an object publishes, none where it has no scan.
+fn names_of<'s, 'a>(scan: &'s Option<PerObjectScan<'a>>) -> &'s [NameMarks<'a>]
+    ensures names { groups_in result.now ≡ names_in_scan scan.now }
+    ensures sound { HasSoundNames scan.now }
+{
+    match scan {
+        Some(scan) => scan.names(),
+        None => &[],
+    }
+}
+
+/// How many sections of an object are placed, none where it has no scan.
+fn placed_of(scan: &Option<PerObjectScan<'_>>) -> usize
+    ensures placed { result ≡ placed_in_scan scan.now }
+    ensures small { result < 2 ^ 39 }
+{
+    match scan {
+        Some(scan) => scan.placed(),
+        None => 0,
+    }
+}
+
+/// How many units all objects have.
+fn count_units(scans: &[Option<PerObjectScan<'_>>]) -> u64
+    requires { length scans.now < 2 ^ 24 }
+    ensures { result ≡ unit_total scans.now }
+{
+    let mut count = 0;
+    for scan in scans {
+        count += units_of(scan).len() as u64;
+    }
+    count
+}
+
+/// How many sections of all objects are placed.
+fn count_placed(scans: &[Option<PerObjectScan<'_>>]) -> usize
+    requires { length scans.now < 2 ^ 24 }
+    ensures { result ≡ placed_total scans.now }
+{
+    let mut count = 0;
+    for scan in scans {
+        count += placed_of(scan);
+    }
+    count
+}
+
+/// How many units each object has.
+fn list_unit_counts(
+    alloc: Global,
+    scans: &[Option<PerObjectScan<'_>>],
+) -> Result<Vec<u32>, AllocError>
+    requires { unit_total scans.now ≤ 2 ^ 24 }
+    ensures { IfOk result (λ counts. counts.items ≡ unit_counts scans.now) }
+{
+    let mut counts = Vec::new(alloc);
+    for scan in scans {
+        counts.push(units_of(scan).len() as u32)?;
+    }
+    Ok(counts)
+}
+
+/// Adds an object's units from a place on, and says where they end.
+fn place_units(units: &mut Vec<CuBoundary>, at: u64, list: &[CuBoundary]) -> Result<u64, AllocError>
+    requires { at + total_length list.now < 2 ^ 64 }
+    ensures units { OnOk result (units.new.items ≡ units.old.items ++ one_behind_another at list.now) }
+    ensures end { IfOk result (λ end. end ≡ at + total_length list.now) }
+{
+    let mut place = at;
+    for unit in list {
+        units.push(CuBoundary {
+            offset: place,
+            length: unit.length,
+        })?;
+        place += unit.length;
+    }
+    Ok(place)
+}
+
+/// The units of all objects, one behind another.
+fn placed_units(
+    alloc: Global,
+    scans: &[Option<PerObjectScan<'_>>],
+) -> Result<Vec<CuBoundary>, AllocError>
+    requires { length scans.now < 2 ^ 24 }
+    ensures { IfOk result (λ units. units.items ≡ one_behind_another 0 (units_in_scans scans.now)) }
+{
+    let mut units = Vec::new(alloc);
+    let mut place = 0;
+    for scan in scans {
+        place = place_units(&mut units, place, units_of(scan))?;
+    }
+    Ok(units)
+}
+
+/// The words of the marks of a name, where the object's first unit has the number `first`.
+fn words_of(alloc: Global, first: u32, marks: &[Mark]) -> Result<Vec<u32>, AllocError>
+    requires { All (λ m. first + m.unit < 2 ^ 24) marks.now }
+    ensures { IfOk result (λ words. words.items ≡ map (mark_word first) marks.now) }
+{
+    let mut words = Vec::new(alloc);
+    for mark in marks {
+        words.push(encode_cu_vector_entry(first + mark.unit as u32, mark.flag))?;
+    }
+    Ok(words)
+}
+
+/// Publishes the names of an object whose first unit has the number `first`.
+fn publish_scan<'a>(
+    names: &mut IndexMap<&'a [u8], Vec<u32>>,
+    alloc: Global,
+    first: u32,
+    scan: &Option<PerObjectScan<'a>>,
+) -> Result<(), AllocError>
+    requires { first + length (units_in_scan scan.now) ≤ 2 ^ 24 }
+    ensures published { OnOk result (shown names.new.entries ≡ add_all (shown names.old.entries) (words_of_groups first (names_in_scan scan.now))) }
+    ensures sound { OnOk result (HasSoundNames scan.now) }
+{
+    let list = names_of(scan);
+    for named in list {
+        let words = words_of(alloc, first, &named.marks)?;
+        publish_list(names, named.name, words)?;
+    }
+    Ok(())
+}
+
+/// The words of each name, in input order.
+fn gather_words<'a>(
+    alloc: Global,
+    scans: &[Option<PerObjectScan<'a>>],
+) -> Result<IndexMap<&'a [u8], Vec<u32>>, AllocError>
+    requires { unit_total scans.now ≤ 2 ^ 24 }
+    ensures words { IfOk result (λ names. shown names.entries ≡ groups (words_from 0 scans.now)) }
+    ensures sound { OnOk result (AllByRecursion HasSoundNames scans.now) }
+{
+    let mut names = IndexMap::new(alloc);
+    let mut first = 0;
+    for scan in scans {
+        publish_scan(&mut names, alloc, first, scan)?;
+        first += units_of(scan).len() as u32;
+    }
+    Ok(names)
+}
+
+/// A name with its words in ascending order.
+fn sorted_name<'a>(name: &'a [u8], mut words: Vec<u32>) -> Result<NameWords<'a>, AllocError>
+    ensures name { IfOk result (λ n. n.name.now ≡ name.now) }
+    ensures same { IfOk result (λ n. IsPermutation words.items n.words.items) }
+    ensures ascending { IfOk result (λ n. IsNonDecreasing n.words.items) }
+    ensures fits { IfOk result (λ n. All (λ w. w < 2 ^ 32) n.words.items) }
+{
+    words.sort()?;
+    Ok(NameWords { name, words })
+}
+
+/// All names, each with its words in ascending order.
+fn sorted_names<'a>(
+    alloc: Global,
+    names: IndexMap<&'a [u8], Vec<u32>>,
+) -> Result<Vec<NameWords<'a>>, AllocError>
+    ensures sorted { IfOk result (λ list. AreSorted (shown names.entry.entries) (all_named list.items)) }
+    ensures fit { IfOk result (λ list. HaveSmallWords (all_named list.items)) }
+{
+    let mut list = Vec::new(alloc);
+    for (name, words) in names {
+        let sorted = sorted_name(name, words)?;
+        list.push(sorted)?;
+    }
+    Ok(list)
+}
+
+/// The most units that the words of an index can number.
+const MAX_UNITS: u64 = 1 << 24;
+
+/// The merge of some scans.
+fn merge_scans<'a>(
+    alloc: Global,
+    scans: &[Option<PerObjectScan<'a>>],
+) -> Result<GdbIndexScanResult<'a>, GdbError>
+    requires { length scans.now < 2 ^ 24 }
+    ensures merged { IfOk result (IsMergeOf scans.now) }
+    ensures objects { IfOk result (λ merged. (os : List Object) → AreScansOf os scans.now → ListsPublished (published os) merged.names) }
+    ensures cause { IfErr result (IsMergeCause scans.now) }
+{
+    let count = count_units(scans);
+    if count > MAX_UNITS {
+        return Err(GdbError::TooManyUnits(count));
+    }
+    let units = placed_units(alloc, scans)?;
+    let counts = list_unit_counts(alloc, scans)?;
+    let words = gather_words(alloc, scans)?;
+    let names = sorted_names(alloc, words)?;
+    let placed = count_placed(scans);
+    Ok(GdbIndexScanResult::new(units, names, placed, counts))
+}
+
+/// The merge of the scans of all objects, one scan per object, in input order: all units, each with an offset that
+/// sums the lengths of all units before it; the names in the order of first publication, each with its words in
+/// ascending order; and how many sections are placed. An object without a scan has no unit.
+///
+/// `TooManyUnits`, with the number of all units, comes exactly where there are more than 16,777,216 of them;
+/// `NoMemory` may come at any scans. There are fewer than 2^24 scans.
+pub fn merge_gdb_index_scans<'a>(
+    alloc: Global,
+    scans: Vec<Option<PerObjectScan<'a>>>,
+) -> Result<GdbIndexScanResult<'a>, GdbError>
+    requires { length scans.items < 2 ^ 24 }
+    ensures merged { IfOk result (IsMergeOf scans.entry.items) }
+    ensures objects { IfOk result (λ merged. (os : List Object) → AreScansOf os scans.entry.items → ListsPublished (published os) merged.names) }
+    ensures cause { IfErr result (IsMergeCause scans.entry.items) }
+{
+    merge_scans(alloc, &scans)
+}
