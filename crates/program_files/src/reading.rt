@@ -138,7 +138,7 @@ pub fn read_files<F: Files>(
     // Where the files are told, they are held and within the limits, and this is what they hold.
     ensures told { IfOk result (λ read. IfSome (F.held files.old) (λ held. read_of held (tables_of command.now) ≡ Ok (texts_read read))) }
     ensures count { IfOk result (λ read. length read.objects.items ≡ length command.now.objects.now) }
-    ensures inside { IfOk result (λ read. AreInside (vec_len read.buffer) read.objects.items) }
+    ensures inside { IfOk result (λ read. AreInside (length read.buffer.items) read.objects.items) }
     ensures small { IfOk result (λ read. (vec_len read.layout ≤ file_limit) × (vec_len read.sframe ≤ file_limit) × (vec_len read.buffer ≤ file_limit)) }
 
     ensures unread { (k : ℕ) → result ≡ Err (ReadError.Unread k) → NamesFile (tables_of command.now) k × Rose (F.faults files.old) (F.faults files.new) }

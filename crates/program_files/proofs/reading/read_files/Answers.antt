@@ -1,4 +1,4 @@
-use Rattle.std.proofs.Common.{rules, ℕ, List, IsTrue, ◌++◌, vec_len, ap, subst, ◌∙◌, arith, sym}
+use Rattle.std.proofs.Common.{rules, ℕ, List, IsTrue, ◌++◌, vec_len, ap, subst, refl, ◌∙◌, arith, sym}
 use Rattle.std.proofs.lemmas.List.{length-map}
 use Rattle.program_text.specs.Command.{tables_of}
 use Rattle.program_files.proofs.ReadLemmas.{same_error, err_of, some_mapped, sframe_error, objects_settle, sframe_place, object_place, all_read, spans_counted, spans_within}
@@ -68,4 +68,4 @@ pub returns-clause-count : goal.returns-clause-count
 returns-clause-count g c = spans_counted _ _ _ _ _ _ (length-map c.args.command.now.objects.now _) c.in_ok-objects.ensures.ok
 
 pub returns-clause-inside : goal.returns-clause-inside
-returns-clause-inside g c = spans_within _ _ (vec_len c.read_objects.new.buffer) _ _ _ (search rules) c.in_ok-objects.ensures.ok
+returns-clause-inside g c = spans_within _ _ _ _ _ _ refl c.in_ok-objects.ensures.ok

@@ -1,0 +1,112 @@
+-- The clauses of a run, each from the cause of its answer.
+use Rattle.std.proofs.Common.{◌≡◌, ℕ, ◌⊎◌, Bool, true, false, List, Option, Some, None, IfSome, Result, Ok, Err, IsTrue, refl, sym, ap, subst, ◌∙◌, inl, inr}
+use Rattle.derivation.specs.declared.error.DeriveError.{DeriveError}
+use Rattle.program_files.specs.declared.error.ReadError.{ReadError}
+use Rattle.program_files.specs.Reading.{Texts, read_of}
+use Rattle.program_io.specs.Contents.{Contents}
+use Rattle.program_io.specs.Counting.{Rose}
+use Rattle.program_text.specs.Command.{Tables, command_of}
+use Rattle.program_text.specs.Layout.{Said, layout_of}
+use Rattle.derive_program.specs.declared.ran.Ran.{Ran}
+use Rattle.derive_program.specs.declared.ran.Ran.TheVariants.{Done, Refused, BadWords, BadLayout, ReadFault, FileTooLong, WriteFault, NoMemory}
+use Rattle.derive_program.specs.Cause.{Reads, Writes, IsRunOf, IsGood, IsRefused, IsReported, IsDoneOrNoMemory, IfDone, IfRefused}
+use Rattle.derive_program.specs.Input.{Input, IsInputOf, files_of}
+use Rattle.derive_program.specs.Status.{may_write}
+
+-- the cause at the answer
+pub cause_at : (words : List (List ℕ)) (reads : Reads) (writes : Writes) (ran answered : Ran) → IsRunOf words reads writes ran → ran ≡ answered → IsRunOf words reads writes answered
+cause_at words reads writes ran answered cause is = let P : Ran → Type 0 = λ r. IsRunOf words reads writes r in subst P is cause
+
+-- the value, or another where there is none
+ok_or : {T E : Type 0} → T → Result T E → T
+ok_or other (Ok value) = value
+ok_or other (Err error) = other
+
+same_ok : {T E : Type 0} (r : Result T E) (a b : T) → r ≡ Ok a → r ≡ Ok b → a ≡ b
+unfolding ok_or
+same_ok r a b is_a is_b = ap (λ v. ok_or a v) (sym is_a ∙ is_b)
+
+not_both : {T E : Type 0} (r : Result T E) (a : T) (e : E) → r ≡ Ok a → r ≡ Err e → ⊥
+not_both r a e is_a is_e = cc
+
+pub bad_words : (words : List (List ℕ)) (reads : Reads) (writes : Writes) (ran : Ran) (place : ℕ) → IsRunOf words reads writes ran → command_of words ≡ Err place → ran ≡ BadWords place
+bad_words words reads writes (Done tables) place cause wrong = absurd (not_both (command_of words) _ place cause.reported.read.said wrong)
+bad_words words reads writes (Refused error) place (cause, same) wrong = absurd (not_both (command_of words) _ place cause.read.said wrong)
+bad_words words reads writes (BadWords at) place (is, same) wrong = ap (λ p. BadWords p) (let equal : at ≡ place = same_err (command_of words) at place is wrong in equal)
+  where
+  err_or : {T : Type 0} → ℕ → Result T ℕ → ℕ
+  err_or other (Ok value) = other
+  err_or other (Err error) = error
+  same_err : {T : Type 0} (r : Result T ℕ) (a b : ℕ) → r ≡ Err a → r ≡ Err b → a ≡ b
+  same_err r a b is_a is_b = ap (λ v. err_or a v) (sym is_a ∙ is_b)
+bad_words words reads writes (BadLayout line) place (cause, same) wrong = absurd (not_both (command_of words) _ place cause.said wrong)
+bad_words words reads writes (ReadFault at) place (cause, same) wrong = absurd (not_both (command_of words) _ place cause.said wrong)
+bad_words words reads writes (FileTooLong at) place (cause, same) wrong = absurd (not_both (command_of words) _ place cause.said wrong)
+bad_words words reads writes WriteFault place (rose, never, cut) wrong = absurd (not_both (command_of words) _ place cut.reported.read.said wrong)
+bad_words words reads writes NoMemory place ((command, said), same) wrong = absurd (not_both (command_of words) command place said wrong)
+
+pub unwritten_by : (words : List (List ℕ)) (reads : Reads) (writes : Writes) (ran : Ran) → IsRunOf words reads writes ran → may_write ran ≡ false → writes.now ≡ writes.written
+unwritten_by words reads writes (Done tables) cause never = cc
+unwritten_by words reads writes (Refused error) (cause, same) never = same
+unwritten_by words reads writes (BadWords place) (cause, same) never = same
+unwritten_by words reads writes (BadLayout line) (cause, same) never = same
+unwritten_by words reads writes (ReadFault place) (cause, same) never = same
+unwritten_by words reads writes (FileTooLong place) (cause, same) never = same
+unwritten_by words reads writes WriteFault cause never = cc
+unwritten_by words reads writes NoMemory (cause, same) never = same
+
+pub done_by : (words : List (List ℕ)) (reads : Reads) (writes : Writes) (ran : Ran) → IsRunOf words reads writes ran → IfDone ran (λ index sframe outcome. IsReported reads.held words index sframe outcome writes.written writes.now)
+done_by words reads writes (Done tables) cause = cause
+done_by words reads writes (Refused error) cause = tt
+done_by words reads writes (BadWords place) cause = tt
+done_by words reads writes (BadLayout line) cause = tt
+done_by words reads writes (ReadFault place) cause = tt
+done_by words reads writes (FileTooLong place) cause = tt
+done_by words reads writes WriteFault cause = tt
+done_by words reads writes NoMemory cause = tt
+
+pub refused_by : (words : List (List ℕ)) (reads : Reads) (writes : Writes) (ran : Ran) → IsRunOf words reads writes ran → IfRefused ran (λ error. IsRefused reads.held words error)
+refused_by words reads writes (Done tables) cause = tt
+refused_by words reads writes (Refused error) (cause, same) = cause
+refused_by words reads writes (BadWords place) cause = tt
+refused_by words reads writes (BadLayout line) cause = tt
+refused_by words reads writes (ReadFault place) cause = tt
+refused_by words reads writes (FileTooLong place) cause = tt
+refused_by words reads writes WriteFault cause = tt
+refused_by words reads writes NoMemory cause = tt
+
+-- what is told, at the files that are told
+at_files : (held : Contents) (files : List (List ℕ × List ℕ)) (P : List (List ℕ × List ℕ) → Type 0) → held ≡ Some files → IfSome held P → P files
+at_files held files P told fact = let Q : Contents → Type 0 = λ h. IfSome h P in subst Q told fact
+
+-- what is told of a command's files, for the command that the words are
+read_as : (held : Contents) (words : List (List ℕ)) (good : IsGood held words) (command : Tables) (r : Result Texts ReadError) → command_of words ≡ Ok command → IfSome held (λ files. read_of files command ≡ r) → read_of good.files good.command ≡ r
+read_as held words good command r said told =
+    ap (λ c. read_of good.files c) (same_ok (command_of words) good.command command good.said said) ∙ at_files held good.files (λ files. read_of files command ≡ r) good.told told
+
+no_refusal : (held : Contents) (words : List (List ℕ)) (error : DeriveError) → IsGood held words → IsRefused held words error → ⊥
+no_refusal held words error good refused =
+    let input = refused.input in
+    let text = refused.read.text in
+    let command_is = same_ok (command_of words) refused.read.command good.command refused.read.said good.said in
+    let texts_are : files_of input text ≡ good.texts = same_ok (read_of good.files good.command) (files_of input text) good.texts (read_as held words good refused.read.command _ refused.read.said refused.read.read) good.read in
+    let text_is : text ≡ good.texts.layout = ap (λ (t : Texts). t.layout) texts_are in
+    let layout_is : input.layout ≡ good.layout = same_ok (layout_of good.texts.layout) input.layout good.layout (ap layout_of (sym text_is) ∙ refused.read.laid) good.laid in
+    refused.no_tables
+      (good.valid input (refused.read.machine ∙ ap (λ (c : Tables). c.machine) command_is) layout_is (ap (λ t. files_of input t) (sym text_is) ∙ texts_are) refused.inside)
+
+pub complete_by : (words : List (List ℕ)) (reads : Reads) (writes : Writes) (ran : Ran) → IsRunOf words reads writes ran → IsGood reads.held words → (Rose reads.faults reads.faults_now → ⊥) ⊎ IsTrue reads.steady → (Rose writes.faults writes.faults_now → ⊥) ⊎ IsTrue writes.steady → IsDoneOrNoMemory ran
+complete_by words reads writes (Done tables) cause good files sink = tt
+complete_by words reads writes (Refused error) (cause, same) good files sink = no_refusal reads.held words error good cause
+complete_by words reads writes (BadWords place) (wrong, same) good files sink = not_both (command_of words) good.command place good.said wrong
+complete_by words reads writes (BadLayout line) (cause, same) good files sink =
+    let texts_are = same_ok (read_of good.files good.command) cause.texts good.texts (read_as reads.held words good cause.command _ cause.said cause.read) good.read in
+    not_both (layout_of good.texts.layout) good.layout line good.laid (ap (λ (t : Texts). layout_of t.layout) (sym texts_are) ∙ cause.wrong)
+complete_by words reads writes (ReadFault place) (cause, same) good (inl quiet) sink = quiet cause.rose
+complete_by words reads writes (ReadFault place) (cause, same) good (inr steady) sink =
+    not_both (read_of good.files good.command) good.texts _ good.read (read_as reads.held words good cause.command _ cause.said (cause.missing steady))
+complete_by words reads writes (FileTooLong place) (cause, same) good files sink =
+    not_both (read_of good.files good.command) good.texts _ good.read (read_as reads.held words good cause.command _ cause.said cause.longer)
+complete_by words reads writes WriteFault (rose, never, cut) good files (inl quiet) = quiet rose
+complete_by words reads writes WriteFault (rose, never, cut) good files (inr steady) = never steady
+complete_by words reads writes NoMemory cause good files sink = tt

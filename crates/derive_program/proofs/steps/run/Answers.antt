@@ -1,0 +1,39 @@
+use Rattle.std.proofs.Common.{◌≡◌, inl, inr}
+use Rattle.derive_program.proofs.ClauseLemmas.{cause_at, bad_words, unwritten_by, done_by, refused_by, complete_by}
+use Rattle.derive_program.proofs.steps.run.Goals as goal
+
+pub returns-clause-words : goal.returns-clause-words
+returns-clause-words g c = λ place. (λ is. (cause_at _ _ _ _ _ c.answer.ensures.cause is).0, λ wrong. bad_words _ _ _ _ place c.answer.ensures.cause wrong)
+
+pub returns-clause-read_fault : goal.returns-clause-read_fault
+returns-clause-read_fault g c = λ place is. (cause_at _ _ _ _ _ c.answer.ensures.cause is).0
+
+pub returns-clause-file_too_long : goal.returns-clause-file_too_long
+returns-clause-file_too_long g c = λ place is. (cause_at _ _ _ _ _ c.answer.ensures.cause is).0
+
+pub returns-clause-layout : goal.returns-clause-layout
+returns-clause-layout g c = λ line is. (cause_at _ _ _ _ _ c.answer.ensures.cause is).0
+
+pub returns-clause-refused : goal.returns-clause-refused
+returns-clause-refused g c = refused_by _ _ _ _ c.answer.ensures.cause
+
+pub returns-clause-write_fault : goal.returns-clause-write_fault
+returns-clause-write_fault g c = λ is. (cause_at _ _ _ _ _ c.answer.ensures.cause is).0
+
+pub returns-clause-steady_sink : goal.returns-clause-steady_sink
+returns-clause-steady_sink g c = λ steady is. (cause_at _ _ _ _ _ c.answer.ensures.cause is).1 steady
+
+pub returns-clause-done : goal.returns-clause-done
+returns-clause-done g c = done_by _ _ _ _ c.answer.ensures.cause
+
+pub returns-clause-cut_off : goal.returns-clause-cut_off
+returns-clause-cut_off g c = λ is. (cause_at _ _ _ _ _ c.answer.ensures.cause is).2
+
+pub returns-clause-unwritten : goal.returns-clause-unwritten
+returns-clause-unwritten g c = λ silent. unwritten_by _ _ _ _ c.answer.ensures.cause silent
+
+pub returns-clause-complete : goal.returns-clause-complete
+returns-clause-complete g c = λ good quiet silent. complete_by _ _ _ _ c.answer.ensures.cause good (inl quiet) (inl silent)
+
+pub returns-clause-complete_steady : goal.returns-clause-complete_steady
+returns-clause-complete_steady g c = λ good files sink. complete_by _ _ _ _ c.answer.ensures.cause good (inr files) (inr sink)

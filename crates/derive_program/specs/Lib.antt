@@ -1,0 +1,5 @@
+pub mod Answer
+pub mod Cause
+pub mod Input
+pub mod Status
+pub mod Writing

@@ -1,0 +1,25 @@
+-- The exit status of each answer, and which of them write.
+use Rattle.std.specs.Prelude.{ℕ, Bool, true, false}
+use Rattle.derive_program.specs.declared.ran.Ran.{Ran}
+use Rattle.derive_program.specs.declared.ran.Ran.TheVariants.{Done, Refused, BadWords, BadLayout, ReadFault, FileTooLong, WriteFault, NoMemory}
+
+abbrev pub status_of : Ran → ℕ
+status_of (Done tables) = 0
+status_of (Refused error) = 1
+status_of (BadWords place) = 2
+status_of (ReadFault place) = 3
+status_of WriteFault = 4
+status_of (BadLayout line) = 5
+status_of NoMemory = 6
+status_of (FileTooLong place) = 7
+
+-- an answer before which something may have been written
+abbrev pub may_write : Ran → Bool
+may_write (Done tables) = true
+may_write (Refused error) = false
+may_write (BadWords place) = false
+may_write (ReadFault place) = false
+may_write WriteFault = true
+may_write (BadLayout line) = false
+may_write NoMemory = false
+may_write (FileTooLong place) = false

@@ -1,0 +1,11 @@
+//! The program: from the words of a command line to a report of the tables that were derived.
+//!
+//! Words, files, layout, tables, writing: each step begins only where the one before it succeeded. What the program reads and writes is
+//! handed in.
+#![tactic(auto)]
+
+mod ran;
+mod steps;
+
+pub use ran::{Ran, Tables};
+pub use steps::run;

@@ -1,0 +1,56 @@
+//! What the program answers, with the exit status of each answer.
+ghost use Rattle.std.specs.Prelude.{◌≡◌};
+ghost use Rattle.derive_program.specs.Status.{status_of};
+
+use derivation::DeriveError;
+use sframe_format::SframeOutcome;
+
+/// The tables that were derived.
+#[derive(Debug, Drop)]
+pub struct Tables {
+    /// The bytes of the `.gdb_index` section, none where there is no unit.
+    pub index: Vec<u8>,
+    /// The bytes of the SFrame section.
+    pub sframe: Vec<u8>,
+    /// What was done to the SFrame section.
+    pub outcome: SframeOutcome,
+}
+
+/// What the program answers. Places of words count from 0, without the program's name; lines of the layout count from 1.
+#[derive(Debug, Drop)]
+pub enum Ran {
+    /// The tables were derived, and their report was written.
+    Done(Tables),
+    /// The input has no tables.
+    Refused(DeriveError),
+    /// The word at this place is wrong or missing, and none before it is.
+    BadWords(usize),
+    /// This line of the layout is wrong, and none before it is.
+    BadLayout(u64),
+    /// The file of the word at this place was not read.
+    ReadFault(usize),
+    /// The file of the word at this place is longer than the limit left for it.
+    FileTooLong(usize),
+    /// The report was not written whole.
+    WriteFault,
+    /// There was no memory.
+    NoMemory,
+}
+
+impl Ran {
+    /// The exit status of the program.
+    pub fn status(&self) -> u8
+        ensures { result ≡ status_of self.now }
+    {
+        match self {
+            Ran::Done(_) => 0,
+            Ran::Refused(_) => 1,
+            Ran::BadWords(_) => 2,
+            Ran::ReadFault(_) => 3,
+            Ran::WriteFault => 4,
+            Ran::BadLayout(_) => 5,
+            Ran::NoMemory => 6,
+            Ran::FileTooLong(_) => 7,
+        }
+    }
+}
