@@ -1,29 +1,51 @@
+//! The header of an SFrame section (SFrame 2, The SFrame Header): 28 bytes at the front of a contribution.
+//! Both offsets count from the end of the header and its auxiliary bytes.
+
 ghost use Rattle.std.specs.Prelude.{◌≡◌, ◌≢◌, ◌+◌, ◌≤◌, ◌++◌, List, ℕ, length, drop, MatchResult, IfOk, Ok};
 ghost use Rattle.sframe_format.specs.Fields.{header_of, header_bytes, IsParsed};
 
 use elf_words::{read_u16, read_u32};
+use thiserror::Error;
 
-/// Why a header is not one of version 2.
-#[derive(Clone, Copy, Debug, PartialEq, Eq)]
+/// Why bytes are no header of version 2. The magic is looked at first.
+#[derive(Clone, Copy, Debug, PartialEq, Eq, Error)]
 pub enum SframeError {
+    /// The first two bytes are not the magic, but this number.
+    #[error("Invalid SFrame magic {0:#x}")]
     BadMagicBytes(u16),
+    /// The magic is right, and the version is this one.
+    #[error("Unsupported SFrame version {0}")]
     UnsupportedVersion(u8),
 }
 
-/// The fields of a contribution's first 28 bytes.
+/// The fields of a contribution's first 28 bytes (SFrame 2, The SFrame Header). Lengths and offsets are in
+/// bytes.
 #[derive(Clone, Copy, Debug, PartialEq, Eq)]
 pub struct Header {
+    /// 0xdee2.
     pub magic: u16,
+    /// The version of the format: 2.
     pub version: u8,
+    /// Bit 1: functions ascend by address; 2: each function keeps a frame pointer; 4: a start value counts
+    /// from its own field; 8: return addresses are signed.
     pub flags: u8,
+    /// The machine and its byte order.
     pub abi_arch: u8,
+    /// Where the frame pointer is saved, from the canonical frame address; 0 where that is not fixed.
     pub cfa_fixed_fp_offset: i8,
+    /// Where the return address is saved, from the canonical frame address; 0 where that is not fixed.
     pub cfa_fixed_ra_offset: i8,
+    /// How many auxiliary bytes follow the header.
     pub aux_len: u8,
+    /// How many function descriptors there are, of 20 bytes each.
     pub num_fdes: u32,
+    /// How many rows all functions have together.
     pub num_fres: u32,
+    /// How many bytes all rows have together.
     pub fre_len: u32,
+    /// Where the descriptors begin.
     pub fde_start_offset: u32,
+    /// Where the rows begin.
     pub fre_start_offset: u32,
 }
 
@@ -31,11 +53,13 @@ impl Header {
     /// How many bytes a header has.
     pub const SIZE: usize = 28;
 
+    /// The number in the first two bytes.
     pub const MAGIC: u16 = 0xdee2;
 
+    /// The version that is read and written.
     pub const VERSION: u8 = 2;
 
-    /// The fields at their places, whatever they hold.
+    /// The fields at their places, whatever they hold. There have to be 28 bytes.
     pub fn read(bytes: &[u8]) -> Header
         requires { 28 ≤ length bytes.now }
         ensures { result ≡ header_of bytes.now }
@@ -56,7 +80,8 @@ impl Header {
         }
     }
 
-    /// The header of version 2 in the first 28 bytes. A wrong magic is told before another version.
+    /// The header of version 2 in the first 28 bytes, which have to be there: `BadMagicBytes` exactly where
+    /// the magic is another one, else `UnsupportedVersion` exactly where the version is.
     pub fn parse(bytes: &[u8]) -> Result<Header, SframeError>
         requires { 28 ≤ length bytes.now }
         ensures { IsParsed (header_of bytes.now) result }
@@ -71,7 +96,7 @@ impl Header {
         Ok(header)
     }
 
-    /// Writes the first 28 bytes.
+    /// Writes the header into the first 28 bytes, which have to be there, and leaves the others as they are.
     pub fn write(&self, out: &mut [u8])
         requires { 28 ≤ length out.old }
         ensures { out.new ≡ header_bytes self.now ++ drop 28 out.old }
