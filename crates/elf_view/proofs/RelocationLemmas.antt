@@ -1,10 +1,9 @@
 -- Entries of a table of sections.
 use Rattle.std.proofs.Common.{◌≡◌, ℕ, zero, suc, ◌<◌, ◌≤◌, Bool, true, false, ◌&&◌, ◌==◌, List, [], ◌∷◌, length, replicate, get_or, Option, Some, None, refl, ap, sym, ◌∙◌, arith, inl, inr, lt-ltb}
 use Rattle.std.proofs.Math.ListN.{set}
-use Rattle.std.proofs.Math.Dec.{eqb}
 use Rattle.std.proofs.lemmas.Bool.Decides.{eqb_tells}
 use Rattle.std.proofs.lemmas.Bool.{ne_eqb}
-use Rattle.std.specs.Prelude.{nat_lt, if◌then◌else◌, slice_get, position}
+use Rattle.std.specs.Prelude.{nat_lt, if◌then◌else◌, position}
 use Rattle.std.specs.List.{list_all, position_from}
 use Rattle.std.specs.Option.{option_or, option_flatten}
 use Rattle.elf_format.specs.Class.{Class}
@@ -50,14 +49,14 @@ pub put_first_lem : (xs : List (Option ℕ)) (target index i : ℕ) (d : Option 
 put_first_lem xs target index i d above within =
     elim (eqb_tells target i) [
       | inl same ↦
-        let here : entry_of (set xs target (option_or (get_or xs target d) (Some index))) i ≡ option_or (get_or xs target d) (Some index) =
+          let here : entry_of (set xs target (option_or (get_or xs target d) (Some index))) i ≡ option_or (get_or xs target d) (Some index) =
           ap (entry_of (set xs target (option_or (get_or xs target d) (Some index)))) (sym same.1) ∙ entry_set xs target (option_or (get_or xs target d) (Some index)) within in
-        let old : entry_of xs i ≡ get_or xs target d = ap (entry_of xs) (sym same.1) ∙ entry_is xs target d within in
-        let positive : nat_lt 0 i ≡ true = lt-ltb 0 i (omega arith) in
-        rw (here, old, same.0, positive) refl
+          let old : entry_of xs i ≡ get_or xs target d = ap (entry_of xs) (sym same.1) ∙ entry_is xs target d within in
+          let positive : nat_lt 0 i ≡ true = lt-ltb 0 i (omega arith) in
+          rw (here, old, same.0, positive) refl
       | inr other ↦
-        let here : entry_of (set xs target (option_or (get_or xs target d) (Some index))) i ≡ entry_of xs i = entry_kept xs target i (option_or (get_or xs target d) (Some index)) other.1 in
-        rw (here, other.0) (sym (skip (nat_lt 0 i) (entry_of xs i) (Some index)))
+          let here : entry_of (set xs target (option_or (get_or xs target d) (Some index))) i ≡ entry_of xs i = entry_kept xs target i (option_or (get_or xs target d) (Some index)) other.1 in
+          rw (here, other.0) (sym (skip (nat_lt 0 i) (entry_of xs i) (Some index)))
     ]
 
 pub keep_first : (xs : List (Option ℕ)) (target index i : ℕ) → target ≤ 0 → entry_of xs i ≡ option_or (entry_of xs i) (if nat_lt 0 i && target == i then Some index else None)
@@ -80,6 +79,7 @@ pub gather_start : (c : Class) (bytes : List ℕ) (table count : ℕ) (first : L
     → (all_have_targets c bytes table ≡ list_all (has_target c table count) headers)
     × ((target : ℕ) → option_or (entry_of first target) (position_from (relocates_section c table target) 0 headers) ≡ position (relocates_section c table target) (sections c bytes))
 unfolding all_have_targets
-gather_start c bytes table count first headers h n e =
-    (rw (n, h) refl,
-     λ target. rw (e, entry_none count target, h) (sym (position_is_from (relocates_section c table target) (sections c bytes))))
+gather_start c bytes table count first headers h n e = (
+  rw (n, h) refl,
+  λ target. rw (e, entry_none count target, h) (sym (position_is_from (relocates_section c table target) (sections c bytes))),
+)

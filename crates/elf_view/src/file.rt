@@ -33,17 +33,14 @@ use crate::version::are_versions_sound;
 use elf_format::{Architecture, ElfError};
 use elf_relocs::RelocationList;
 use elf_words::{
-    ElfClass, FileHeaderFields, Record, Records, SectionHeaderFields, SectionIndex, SymFields,
-    SymbolIndex,
+    ElfClass, FileHeaderFields, Record, Records, SHF_COMPRESSED, SectionHeaderFields, SectionIndex,
+    SymFields, SymbolIndex,
 };
 use std::alloc::Global;
 use std::marker::Model;
 
 /// The headers of a file's sections, from the first on.
 pub type SectionIter<'a, C> = Records<'a, <C as ElfClass>::SectionHeader>;
-
-/// The flag of a section whose bytes are compressed (gABI, Section Attribute Flags).
-const SHF_COMPRESSED: u64 = 0x800;
 
 /// A file of a class whose bytes keep every rule.
 #[derive(Drop)]
@@ -259,7 +256,8 @@ impl<'a, C: ElfClass> File<'a, C> {
     pub fn parse_relocations(&self, alloc: Global) -> Result<RelocationSections, RelocError>
         ensures { MatchResult result (λ found. (has_targets C.class self.now.is_dynamic self.now.bytes ≡ true) × ((target : ℕ) → entry_of found target ≡ relocation_section C.class self.now.is_dynamic self.now.bytes target)) (IsRelocFault (has_targets C.class self.now.is_dynamic self.now.bytes)) }
     {
-        let Some((table, _)) = find_symbol_table::<C>(self.bytes, self.is_dynamic, &self.headers) else {
+        let Some((table, _)) = find_symbol_table::<C>(self.bytes, self.is_dynamic, &self.headers)
+        else {
             return Ok(RelocationSections::none(alloc));
         };
         RelocationSections::gather(alloc, self.bytes, &self.headers, table)

@@ -60,7 +60,11 @@ fn the_relocations_of_a_section(rt: HostRuntime) -> Result<(), Fail> {
         assert!(rt; relocation.offset() == place);
         place = 20;
     }
-    assert!(rt; file.relocations(SectionIndex(3), &sections)?.num_relocations() == 0);
+    assert!(rt;
+        file.relocations(SectionIndex(3), &sections)?
+            .num_relocations()
+            == 0
+    );
     Ok(())
 }
 
@@ -68,9 +72,16 @@ fn the_relocations_of_a_section(rt: HostRuntime) -> Result<(), Fail> {
 fn the_sections_of_symbols(rt: HostRuntime) -> Result<(), Fail> {
     let file = File::<Class64>::parse_bytes(OBJECT, false)?;
     assert!(rt; file.num_symbols() == 3);
-    for (index, section) in [(0, None), (1, Some(SectionIndex(3))), (2, Some(SectionIndex(4)))] {
+    for (index, section) in [
+        (0, None),
+        (1, Some(SectionIndex(3))),
+        (2, Some(SectionIndex(4))),
+    ] {
         let symbol = file.symbol(SymbolIndex(index))?;
-        assert!(rt; file.symbol_section(&symbol, SymbolIndex(index)) == Ok(section), "{index}");
+        assert!(rt;
+            file.symbol_section(&symbol, SymbolIndex(index)) == Ok(section),
+            "{index}"
+        );
     }
     Ok(())
 }

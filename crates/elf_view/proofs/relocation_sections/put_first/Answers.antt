@@ -1,6 +1,6 @@
 use Rattle.std.proofs.Common.{◌≡◌, Some, get_or, ap, ◌∙◌, arith}
 use Rattle.std.specs.Option.{option_or}
-use Rattle.elf_view.proofs.RelocationLemmas.{put_first_lem, keep_first}
+use Rattle.elf_view.proofs.RelocationLemmas.{put_first_lem}
 use Rattle.elf_view.proofs.relocation_sections.put_first.Goals as goal
 
 pub returns-then-target-gt0-clause-entry : goal.returns-then-target-gt0-clause-entry
