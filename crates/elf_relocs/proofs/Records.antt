@@ -1,8 +1,8 @@
 -- A record is read in parts.
-use Rattle.std.proofs.Common.{◌≡◌, ℕ, zero, suc, ◌+◌, ◌-◌, ◌*◌, ◌/◌, ◌%◌, ◌≤◌, Bool, ◌&&◌, not, eqb, ℤ, List, [], ◌∷◌, ◌++◌, length, take, drop, get_or, Ok, refl, ap, sym, ◌∙◌, arith, append_assoc, drop-cons}
+use Rattle.std.proofs.Common.{◌≡◌, ℕ, ◌-◌, ◌/◌, ◌%◌, ◌≤◌, Bool, ◌&&◌, not, eqb, ℤ, List, [], ◌∷◌, ◌++◌, length, take, drop, get_or, Ok, refl, arith, append_assoc}
 use Rattle.std.proofs.lemmas.List.{take_rest}
 use Rattle.elf_format.specs.declared.crel.Crel.{Crel}
-use Rattle.elf_format.specs.Crel.{◌>>=◌, has_bit, change, offset_rest, add_32, add_64, add_offset, flags_end, record_front, record_form, offset_form, change_form, offset_change, flags_of, from_to_32, from_to_64, same_z}
+use Rattle.elf_format.specs.Crel.{has_bit, change, offset_rest, add_32, add_64, add_offset, flags_end, record_front, record_form, offset_form, change_form, offset_change, flags_of, from_to_32, from_to_64, same_z}
 
 pub front_is : (h : Bool) (last : Crel) (rest b1 b2 b3 b4 : List ℕ) (byte high low unit unit2 o y i : ℕ) (s k a : Bool) (symbol kind addend d : ℤ)
     → offset_rest byte rest ≡ Ok (high, b1)

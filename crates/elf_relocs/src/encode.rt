@@ -72,10 +72,7 @@ fn push_record(out: &mut Vec<u8>, last: Crel, relocation: Crel) -> Result<(), Al
 
 /// The bytes of a list in CREL, which decode to the list. It is refused only for want of memory.
 #[tactic(auto, unfolding(elf_format::specs::Crel::list_form))]
-pub fn encode_crel<C: ElfClass>(
-    alloc: Global,
-    list: &[ElfCrel<C>],
-) -> Result<Vec<u8>, AllocError>
+pub fn encode_crel<C: ElfClass>(alloc: Global, list: &[ElfCrel<C>]) -> Result<Vec<u8>, AllocError>
     ensures written { IfOk result (λ v. v.items ≡ list_form (map (λ x. x.values) list.now)) }
     ensures decoded { IfOk result (λ v. crel_list v.items ≡ Ok (map (λ x. x.values) list.now)) }
 {

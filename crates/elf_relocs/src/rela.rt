@@ -4,8 +4,8 @@
 ghost use Rattle.std.specs.Prelude.{◌≡◌, length, option_map, slice_get};
 ghost use Rattle.elf_format.specs.Rela.{rela_list, rela_entries};
 
-use crate::relocation::ElfRela;
 use crate::rela_sequence::RelaSequence;
+use crate::relocation::ElfRela;
 use elf_words::{ElfClass, Record};
 use std::marker::Model;
 

@@ -24,7 +24,13 @@ fn a_list_is_decoded_and_encoded(rt: HostRuntime) -> Result<(), Fail> {
     let Some(Ok(second)) = list.next() else {
         return Ok(assert!(rt; false));
     };
-    assert!(rt; [second.offset, u64::from(second.symbol), u64::from(second.kind)] == [0x18, 1, 2]);
+    assert!(rt;
+        [
+            second.offset,
+            u64::from(second.symbol),
+            u64::from(second.kind)
+        ] == [0x18, 1, 2]
+    );
     assert!(rt; list.next().is_none());
     let both = [ElfCrel::<Class64>::new(first), ElfCrel::new(second)];
     assert!(rt; encode_crel(rt.alloc(), &both)?.as_slice() == TWO);
@@ -72,7 +78,9 @@ fn sequences_of_either_form(rt: HostRuntime) -> Result<(), Fail> {
         if sequence.num_relocations() >= 2 {
             let part = sequence.subsequence(rt.alloc(), Span { start: 1, stop: 2 })?;
             let last = part.rel_iter().next();
-            assert!(rt; matches!(last, Some(rel) if rel.offset() == offset && rel.addend() == addend));
+            assert!(rt;
+                matches!(last, Some(rel) if rel.offset() == offset && rel.addend() == addend)
+            );
         }
     }
     Ok(())

@@ -1,1 +1,2 @@
+pub mod RelocationLemmas
 pub mod SectionsFit

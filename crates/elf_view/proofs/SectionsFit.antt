@@ -1,7 +1,6 @@
 -- The table of section headers lies in a file without a fault.
-use Rattle.std.proofs.Common.{◌≡◌, ℕ, ◌+◌, ◌*◌, ◌≤◌, Bool, true, false, cond, not, ◌&&◌, ◌||◌, eqb, leb, List, length, Option, Some, None, refl, ap, ◌∙◌, sym, arith}
-use Rattle.std.proofs.lemmas.Bool.{cond-true, eqb-true, leb-true}
-use Rattle.elf_format.specs.declared.error.ElfError.{ElfError}
+use Rattle.std.proofs.Common.{◌≡◌, ℕ, ◌*◌, ◌≤◌, Bool, true, false, cond, not, ◌&&◌, ◌||◌, eqb, List, length, Some, None, refl, arith}
+use Rattle.std.proofs.lemmas.Bool.{leb-true}
 use Rattle.elf_format.specs.declared.error.ElfError.TheVariants.{Header, Machine, SectionTable, SymbolTable, VersionTable}
 use Rattle.elf_format.specs.Bytes.{get}
 use Rattle.elf_format.specs.Class.{Class, class32, class64, e_shentsize, e_shnum, section_header_size}

@@ -1,3 +1,5 @@
 pub mod Parsed
 pub mod Place
 pub mod SectionData
+pub mod Relocation
+pub mod RelocFault

@@ -2,7 +2,7 @@
 //! of it (gABI, ELF Header, Sections and Symbol Table). Contracts see a file as its bytes and whether it was
 //! read as a dynamic one.
 
-ghost use Rattle.std.specs.Prelude.{◌≡◌, None, Some, IfOk, IfErr, IfSome, length, ◌*◌, ◌<◌, ◌≤◌, ◌^◌, slice_get, option_map, option_copied, option_and_then};
+ghost use Rattle.std.specs.Prelude.{◌≡◌, ℕ, true, MatchResult, None, Some, IfOk, IfErr, IfSome, length, ◌*◌, ◌<◌, ◌≤◌, ◌^◌, slice_get, option_map, option_copied, option_and_then};
 ghost use Rattle.std.specs.List.{enumerate_from};
 ghost use Rattle.std.specs.Result.{result_ok, result_err};
 ghost use Rattle.elf_format.specs.Architecture.{architecture_of};
@@ -11,30 +11,36 @@ ghost use Rattle.elf_format.specs.Class.{e_machine};
 ghost use Rattle.elf_format.specs.Section.{file_header, sections, section_bytes, section_name, section_of_name, is_name};
 ghost use Rattle.elf_format.specs.Symbol.{symbols, section_of_symbol};
 ghost use Rattle.elf_format.specs.Fault.{fault};
+ghost use Rattle.elf_format.specs.Cursor.{Gives};
+ghost use Rattle.elf_relocs.specs.Lists.{count_of, relocations_of};
 ghost use Rattle.elf_view.specs.Place.{IsPlace};
+ghost use Rattle.elf_view.specs.Relocation.{has_targets, relocation_section, entry_of, listed_by};
+ghost use Rattle.elf_view.specs.RelocFault.{IsRelocFault};
 ghost use Rattle.elf_view.specs.SectionData.{plain_bytes, data_fault};
 ghost use Rattle.elf_format.specs.declared.error.ElfError.TheVariants.{SectionTable, SectionData, SymbolIndex as MissingSymbol};
 
 use crate::enumerate::SectionEnum;
 use crate::header::read_header;
 use crate::index_entry::IndexEntry;
+use crate::reloc_error::RelocError;
+use crate::relocation_list::{list_of_section, no_relocations};
+use crate::relocation_sections::RelocationSections;
 use crate::section::{bytes_of_section, string_at};
 use crate::section_table::{read_section_headers, read_section_names};
 use crate::symbol::are_symbols_sound;
-use crate::symbol_table::{read_section_indexes, read_symbols};
+use crate::symbol_table::{find_symbol_table, read_section_indexes, read_symbols};
 use crate::version::are_versions_sound;
 use elf_format::{Architecture, ElfError};
+use elf_relocs::RelocationList;
 use elf_words::{
-    ElfClass, FileHeaderFields, Record, Records, SectionHeaderFields, SectionIndex, SymFields,
-    SymbolIndex,
+    ElfClass, FileHeaderFields, Record, Records, SHF_COMPRESSED, SectionHeaderFields, SectionIndex,
+    SymFields, SymbolIndex,
 };
+use std::alloc::Global;
 use std::marker::Model;
 
 /// The headers of a file's sections, from the first on.
 pub type SectionIter<'a, C> = Records<'a, <C as ElfClass>::SectionHeader>;
-
-/// The flag of a section whose bytes are compressed (gABI, Section Attribute Flags).
-const SHF_COMPRESSED: u64 = 0x800;
 
 /// A file of a class whose bytes keep every rule.
 #[derive(Drop)]
@@ -240,5 +246,40 @@ impl<'a, C: ElfClass> File<'a, C> {
             return Ok(None);
         }
         Ok(Some(SectionIndex(section)))
+    }
+
+    /// Which section holds the relocations of which: sections of the types RELA, REL and CREL that are linked
+    /// to the symbols, by the section that their info names. Without symbols there is none. It is refused as
+    /// `RelocationTable` exactly where the info of such a section names no section, and as `NoMemory` where
+    /// there is no memory.
+    #[tactic(auto, unfolding(crate::specs::Relocation::relocation_section, crate::specs::Relocation::has_targets))]
+    pub fn parse_relocations(&self, alloc: Global) -> Result<RelocationSections, RelocError>
+        ensures { MatchResult result (λ found. (has_targets C.class self.now.is_dynamic self.now.bytes ≡ true) × ((target : ℕ) → entry_of found target ≡ relocation_section C.class self.now.is_dynamic self.now.bytes target)) (IsRelocFault (has_targets C.class self.now.is_dynamic self.now.bytes)) }
+    {
+        let Some((table, _)) = find_symbol_table::<C>(self.bytes, self.is_dynamic, &self.headers)
+        else {
+            return Ok(RelocationSections::none(alloc));
+        };
+        RelocationSections::gather(alloc, self.bytes, &self.headers, table)
+    }
+
+    /// The relocations of the section at an index, as `sections` says which section holds them: none where it
+    /// names none, and where that section is neither of type RELA nor CREL. It is refused as `RelocationTable`
+    /// where the file has no such section, where its bytes are no whole records or its header in CREL does not
+    /// decode, and as `SectionData` where its bytes leave the file.
+    pub fn relocations(
+        &self,
+        index: SectionIndex,
+        sections: &RelocationSections,
+    ) -> Result<RelocationList<'a, C>, ElfError>
+        ensures { Gives (λ l. (count_of l, relocations_of l)) result (listed_by C.class self.now.bytes (entry_of sections.now index.0)) }
+    {
+        let Some(holder) = sections.get(index.0) else {
+            return no_relocations::<C>();
+        };
+        let Some(header) = self.headers.get(holder.0) else {
+            return Err(ElfError::RelocationTable);
+        };
+        list_of_section::<C>(self.bytes, &header)
     }
 }

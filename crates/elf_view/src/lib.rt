@@ -7,6 +7,9 @@ mod enumerate;
 mod file;
 mod header;
 mod index_entry;
+mod reloc_error;
+mod relocation_list;
+mod relocation_sections;
 mod section;
 mod section_table;
 mod symbol;
@@ -16,6 +19,10 @@ mod version;
 pub use elf_format::{Architecture, ElfError};
 pub use enumerate::SectionEnum;
 pub use file::{File, SectionIter};
+pub use reloc_error::RelocError;
+pub use relocation_sections::RelocationSections;
 
+#[cfg(test)]
+mod relocation_tests;
 #[cfg(test)]
 mod tests;

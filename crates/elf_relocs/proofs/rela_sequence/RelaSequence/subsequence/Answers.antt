@@ -1,6 +1,6 @@
 use Rattle.std.proofs.Common.{rules, ◌≡◌, ◌∙◌}
 use Rattle.elf_format.specs.Class.{rela_size}
-use Rattle.elf_format.specs.Rela.{rela_values, rela_entries}
+use Rattle.elf_format.specs.Rela.{rela_values}
 use Rattle.elf_relocs.proofs.Spans.{entries_end, span_entries}
 use Rattle.elf_relocs.proofs.rela_sequence.RelaSequence.subsequence.Goals as goal
 
@@ -16,6 +16,6 @@ returns g c =
     let length = rw size at c.bytes_of_span.ensures.length in
     rw c.new.ensures
     (span_entries (rela_values g.C.ElfClass.class) (rela_size g.C.ElfClass.class) c.args.span.start c.args.span.stop c.args.self.now.bytes.now c.bytes_of_span.result.now
-      (search rules) c.requires.order
-      (entries_end (rela_values g.C.ElfClass.class) (rela_size g.C.ElfClass.class) c.args.span.stop c.args.self.now.bytes.now c.requires.within)
-      value length)
+    (search rules) c.requires.order
+    (entries_end (rela_values g.C.ElfClass.class) (rela_size g.C.ElfClass.class) c.args.span.stop c.args.self.now.bytes.now c.requires.within)
+    value length)
