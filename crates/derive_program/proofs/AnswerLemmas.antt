@@ -62,15 +62,19 @@ after_writing machine read layout units names index sframe outcome steady faults
   };
   whole = whole;
 }
-after_writing machine read layout units names index sframe outcome steady faults faults_now written now WriteFault laid are (rose, never, (n, front)) = (rose, never, record {
-  index = index;
-  sframe = sframe;
-  outcome = outcome;
-  text = report_of units names outcome index sframe;
-  reported = record { layout = layout; laid = laid; units = units; names = names; tables = are; report = refl };
-  count = n;
-  front = front;
-})
+after_writing machine read layout units names index sframe outcome steady faults faults_now written now WriteFault laid are (rose, never, (n, front)) = (
+  rose,
+  never,
+  record {
+    index = index;
+    sframe = sframe;
+    outcome = outcome;
+    text = report_of units names outcome index sframe;
+    reported = record { layout = layout; laid = laid; units = units; names = names; tables = are; report = refl };
+    count = n;
+    front = front;
+  },
+)
 after_writing machine read layout units names index sframe outcome steady faults faults_now written now NoMemory laid are same = same
 after_writing machine read layout units names index sframe outcome steady faults faults_now written now (Refused error) laid are never = absurd never
 after_writing machine read layout units names index sframe outcome steady faults faults_now written now (BadWords place) laid are never = absurd never
@@ -79,13 +83,16 @@ after_writing machine read layout units names index sframe outcome steady faults
 after_writing machine read layout units names index sframe outcome steady faults faults_now written now (FileTooLong place) laid are never = absurd never
 
 pub after_refusal : (machine : Architecture) (read : FilesRead) (layout : Said) (error : DeriveError) (steady : Bool) (faults faults_now : ℕ) (written now : Option (List ℕ)) (ran : Ran) → layout_of read.layout.items ≡ Ok layout → HasCauseIn (input_of machine read layout) error → (HasTables (input_of machine read layout) → error ≡ errors.NoMemory) → now ≡ written → IsRefusalOf error ran → IsAnswerFor machine read steady faults faults_now written now ran
-after_refusal machine read layout error steady faults faults_now written now (Refused answered) laid cause complete same (is, not_memory) = (record {
-  layout = layout;
-  laid = laid;
-  cause = let P : DeriveError → Type 0 = λ e. HasCauseIn (input_of machine read layout) e in subst P (sym is) cause;
-  not_memory = λ e. not_memory (sym is ∙ e);
-  no_tables = λ has. not_memory (complete has);
-}, same)
+after_refusal machine read layout error steady faults faults_now written now (Refused answered) laid cause complete same (is, not_memory) = (
+  record {
+    layout = layout;
+    laid = laid;
+    cause = let P : DeriveError → Type 0 = λ e. HasCauseIn (input_of machine read layout) e in subst P (sym is) cause;
+    not_memory = λ e. not_memory (sym is ∙ e);
+    no_tables = λ has. not_memory (complete has);
+  },
+  same,
+)
 after_refusal machine read layout error steady faults faults_now written now NoMemory laid cause complete same is = same
 after_refusal machine read layout error steady faults faults_now written now (Done tables) laid cause complete same never = absurd never
 after_refusal machine read layout error steady faults faults_now written now WriteFault laid cause complete same never = absurd never

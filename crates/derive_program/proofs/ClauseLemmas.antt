@@ -34,11 +34,12 @@ bad_words words reads writes (Done tables) place cause wrong = absurd (not_both 
 bad_words words reads writes (Refused error) place (cause, same) wrong = absurd (not_both (command_of words) _ place cause.read.said wrong)
 bad_words words reads writes (BadWords at) place (is, same) wrong = ap (λ p. BadWords p) (let equal : at ≡ place = same_err (command_of words) at place is wrong in equal)
   where
-  err_or : {T : Type 0} → ℕ → Result T ℕ → ℕ
-  err_or other (Ok value) = other
-  err_or other (Err error) = error
-  same_err : {T : Type 0} (r : Result T ℕ) (a b : ℕ) → r ≡ Err a → r ≡ Err b → a ≡ b
-  same_err r a b is_a is_b = ap (λ v. err_or a v) (sym is_a ∙ is_b)
+    err_or : {T : Type 0} → ℕ → Result T ℕ → ℕ
+    err_or other (Ok value) = other
+    err_or other (Err error) = error
+
+    same_err : {T : Type 0} (r : Result T ℕ) (a b : ℕ) → r ≡ Err a → r ≡ Err b → a ≡ b
+    same_err r a b is_a is_b = ap (λ v. err_or a v) (sym is_a ∙ is_b)
 bad_words words reads writes (BadLayout line) place (cause, same) wrong = absurd (not_both (command_of words) _ place cause.said wrong)
 bad_words words reads writes (ReadFault at) place (cause, same) wrong = absurd (not_both (command_of words) _ place cause.said wrong)
 bad_words words reads writes (FileTooLong at) place (cause, same) wrong = absurd (not_both (command_of words) _ place cause.said wrong)
@@ -93,7 +94,7 @@ no_refusal held words error good refused =
     let text_is : text ≡ good.texts.layout = ap (λ (t : Texts). t.layout) texts_are in
     let layout_is : input.layout ≡ good.layout = same_ok (layout_of good.texts.layout) input.layout good.layout (ap layout_of (sym text_is) ∙ refused.read.laid) good.laid in
     refused.no_tables
-      (good.valid input (refused.read.machine ∙ ap (λ (c : Tables). c.machine) command_is) layout_is (ap (λ t. files_of input t) (sym text_is) ∙ texts_are) refused.inside)
+    (good.valid input (refused.read.machine ∙ ap (λ (c : Tables). c.machine) command_is) layout_is (ap (λ t. files_of input t) (sym text_is) ∙ texts_are) refused.inside)
 
 pub complete_by : (words : List (List ℕ)) (reads : Reads) (writes : Writes) (ran : Ran) → IsRunOf words reads writes ran → IsGood reads.held words → (Rose reads.faults reads.faults_now → ⊥) ⊎ IsTrue reads.steady → (Rose writes.faults writes.faults_now → ⊥) ⊎ IsTrue writes.steady → IsDoneOrNoMemory ran
 complete_by words reads writes (Done tables) cause good files sink = tt

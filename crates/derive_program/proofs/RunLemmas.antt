@@ -57,31 +57,41 @@ run_of_answer words reads writes command read (Done tables) said told inside rep
   reported = report_of_words reads.held words command read _ _ _ _ said told reported.reported;
   whole = reported.whole;
 }
-run_of_answer words reads writes command read (Refused error) said told inside (refused, same) = (record {
-  input = input_of command.machine read refused.layout;
-  read = input_of_words reads.held words command read refused.layout said told refused.laid;
-  inside = inside;
-  cause = refused.cause;
-  not_span = not_span (input_of command.machine read refused.layout) error refused.cause inside;
-  not_memory = refused.not_memory;
-  no_tables = refused.no_tables;
-}, same)
-run_of_answer words reads writes command read (BadLayout line) said told inside (wrong, same) = (record {
-  command = command;
-  said = said;
-  texts = texts_read read;
-  read = told;
-  wrong = wrong;
-}, same)
-run_of_answer words reads writes command read WriteFault said told inside (rose, never, cut) = (rose, never, record {
-  index = cut.index;
-  sframe = cut.sframe;
-  outcome = cut.outcome;
-  text = cut.text;
-  reported = report_of_words reads.held words command read _ _ _ _ said told cut.reported;
-  count = cut.count;
-  front = cut.front;
-})
+run_of_answer words reads writes command read (Refused error) said told inside (refused, same) = (
+  record {
+    input = input_of command.machine read refused.layout;
+    read = input_of_words reads.held words command read refused.layout said told refused.laid;
+    inside = inside;
+    cause = refused.cause;
+    not_span = not_span (input_of command.machine read refused.layout) error refused.cause inside;
+    not_memory = refused.not_memory;
+    no_tables = refused.no_tables;
+  },
+  same,
+)
+run_of_answer words reads writes command read (BadLayout line) said told inside (wrong, same) = (
+  record {
+    command = command;
+    said = said;
+    texts = texts_read read;
+    read = told;
+    wrong = wrong;
+  },
+  same,
+)
+run_of_answer words reads writes command read WriteFault said told inside (rose, never, cut) = (
+  rose,
+  never,
+  record {
+    index = cut.index;
+    sframe = cut.sframe;
+    outcome = cut.outcome;
+    text = cut.text;
+    reported = report_of_words reads.held words command read _ _ _ _ said told cut.reported;
+    count = cut.count;
+    front = cut.front;
+  },
+)
 run_of_answer words reads writes command read NoMemory said told inside same = ((command, said), same)
 run_of_answer words reads writes command read (BadWords place) said told inside never = absurd never
 run_of_answer words reads writes command read (ReadFault place) said told inside never = absurd never

@@ -23,3 +23,14 @@ may_write WriteFault = true
 may_write (BadLayout line) = false
 may_write NoMemory = false
 may_write (FileTooLong place) = false
+
+-- an answer for words that were not collected
+abbrev pub IsWordsFault : Ran → Type 0
+IsWordsFault (BadWords place) = Unit {0}
+IsWordsFault NoMemory = Unit {0}
+IsWordsFault (Done tables) = ⊥
+IsWordsFault (Refused error) = ⊥
+IsWordsFault (BadLayout line) = ⊥
+IsWordsFault (ReadFault place) = ⊥
+IsWordsFault (FileTooLong place) = ⊥
+IsWordsFault WriteFault = ⊥

@@ -4,8 +4,14 @@
 //! handed in.
 #![tactic(auto)]
 
+mod line;
 mod ran;
 mod steps;
+mod words;
 
 pub use ran::{Ran, Tables};
 pub use steps::run;
+pub use words::collect_words;
+
+#[cfg(test)]
+mod tests;

@@ -9,7 +9,7 @@ ghost use Rattle.derive_program.specs.Answer.{IsAnswerFor, IsRefusalOf};
 ghost use Rattle.derive_program.specs.Writing.{IsWritingOf};
 
 use crate::{Ran, Tables};
-use derivation::{Derived, DeriveError, derive_tables};
+use derivation::{DeriveError, Derived, derive_tables};
 use elf_format::Architecture;
 use program_files::{FilesRead, ReadError, read_files};
 use program_io::{Files, Sink, SinkFault};
@@ -54,12 +54,7 @@ fn refusal(error: DeriveError) -> Ran
 }
 
 /// Reads the layout, derives the tables and writes their report.
-fn derive_read<S: Sink>(
-    alloc: Global,
-    machine: Architecture,
-    read: &FilesRead,
-    out: &mut S,
-) -> Ran
+fn derive_read<S: Sink>(alloc: Global, machine: Architecture, read: &FilesRead, out: &mut S) -> Ran
     requires buffer { vec_len read.now.buffer ≤ file_limit }
     requires objects { length read.now.objects.items ≤ object_limit }
     ensures steady { S.steady out.new ≡ S.steady out.old }
@@ -86,12 +81,7 @@ fn derive_read<S: Sink>(
 }
 
 /// All steps, with the cause of each answer.
-fn answer<F: Files, S: Sink>(
-    alloc: Global,
-    words: &[String],
-    files: &mut F,
-    out: &mut S,
-) -> Ran
+fn answer<F: Files, S: Sink>(alloc: Global, words: &[String], files: &mut F, out: &mut S) -> Ran
     ensures held { F.held files.new ≡ F.held files.old }
     ensures steady { F.steady files.new ≡ F.steady files.old }
     ensures faults { F.faults files.old ≤ F.faults files.new }

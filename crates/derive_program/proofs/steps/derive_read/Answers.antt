@@ -22,4 +22,4 @@ returns-clause-answer g c =
     let P : Input → Type 0 = λ i. HasCauseIn i error in
     let Q : Input → Type 0 = λ i. HasTables i → error ≡ NoMemory in
     after_refusal c.args.machine c.args.read.now _ _ _ _ _ _ _ _ (ap layout_of (sym c.deref.ensures.value) ∙ c.in-Ok.ensures) (of_same _ _ P same c.in-Err.ensures.cause)
-      (of_same _ _ Q same (λ has. c.in-Err.ensures.complete has.valid has.built)) refl c.refusal.ensures
+    (of_same _ _ Q same (λ has. c.in-Err.ensures.complete has.valid has.built)) refl c.refusal.ensures

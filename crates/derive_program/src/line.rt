@@ -1,0 +1,39 @@
+//! The line that the program prints for an answer: `derive: `, the name of the variant, and its numbers in order.
+
+use crate::Ran;
+use derivation::DeriveError;
+use std::fmt;
+
+/// Prints an error of the tables, as `BadUnit 0 12 Truncated`.
+fn write_error<W: fmt::Write>(f: &mut fmt::Formatter<W>, error: &DeriveError) -> fmt::Result {
+    match error {
+        DeriveError::BadSpan(place) => write!(f, "BadSpan {place}"),
+        DeriveError::BadElf(object, kind) => write!(f, "BadElf {object} {kind:?}"),
+        DeriveError::CompressedSection(object, section) => {
+            write!(f, "CompressedSection {object} {}", section.0)
+        }
+        DeriveError::BadUnit {
+            object,
+            offset,
+            fault,
+        } => write!(f, "BadUnit {object} {offset} {fault:?}"),
+        DeriveError::NotBuilt => write!(f, "NotBuilt"),
+        DeriveError::NoMemory => write!(f, "NoMemory"),
+    }
+}
+
+impl fmt::Display for Ran {
+    fn fmt<W: fmt::Write>(&self, f: &mut fmt::Formatter<W>) -> fmt::Result {
+        write!(f, "derive: ")?;
+        match self {
+            Ran::Done(_) => write!(f, "Done"),
+            Ran::Refused(error) => write_error(f, error),
+            Ran::BadWords(place) => write!(f, "BadWords {place}"),
+            Ran::BadLayout(line) => write!(f, "BadLayout {line}"),
+            Ran::ReadFault(place) => write!(f, "ReadFault {place}"),
+            Ran::FileTooLong(place) => write!(f, "FileTooLong {place}"),
+            Ran::WriteFault => write!(f, "WriteFault"),
+            Ran::NoMemory => write!(f, "NoMemory"),
+        }
+    }
+}
