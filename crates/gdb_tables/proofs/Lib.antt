@@ -9,3 +9,4 @@ pub mod Sounding
 pub mod Publishing
 pub mod Listing
 pub mod Merging
+pub mod Scanning

@@ -7,3 +7,4 @@ pub mod Cause
 pub mod Gathered
 pub mod Scanned
 pub mod Merged
+pub mod Files

@@ -4,6 +4,7 @@
 #![tactic(auto)]
 
 mod error;
+mod files;
 mod mark;
 mod merge;
 mod names;
@@ -13,6 +14,7 @@ mod placed;
 mod scan;
 
 pub use error::GdbError;
+pub use files::scan_objects;
 pub use gdb_index::{
     AddressEntry, BadIndex, CuVector, GdbIndexScanResult, INDEX_VERSION, IndexCounts,
     IndexTooLarge, NameWords, Steps, checked_index_size, compute_hash_table_slots,

@@ -1,0 +1,200 @@
+-- The scans of all objects, one by one.
+use Rattle.std.proofs.Common.{◌≡◌, ℕ, zero, suc, ◌+◌, ◌-◌, ◌^◌, ◌<◌, ◌≤◌, Bool, true, false, cond, eqb, ltb, ◌&&◌, List, [], ◌∷◌, ◌++◌, length, take, get_or, map, Option, Some, None, refl, sym, ap, subst, ◌∙◌, arith}
+use Rattle.std.specs.Prelude.{slice_get, sum}
+use Rattle.std.specs.List.{All, AllByRecursion, filter}
+use Rattle.std.proofs.lemmas.Bool.{eqb-true, eqb-false, eq-eqb, false_from_ne_true, cases_lt}
+use Rattle.std.proofs.lemmas.List.{append-nil}
+use Rattle.std.proofs.lemmas.List.Sums.{sum_by-append, sum_by-cons}
+use Rattle.elf_format.specs.Class.{Class}
+use Rattle.elf_format.specs.Section.{sections}
+use Rattle.elf_view.specs.Parsed.{Parsed}
+use Rattle.gdb_index_format.specs.declared.placement.Placement.{Placement}
+use Rattle.gdb_index_format.specs.Published.{Object}
+use Rattle.gdb_index_format.specs.Objects.{IsObjectOf, AreObjectsOf, first_compressed}
+use Rattle.gdb_index_format.specs.Placed.{has_unit, is_code, counts_in, placed}
+use Rattle.gdb_tables.specs.declared.error.GdbError.{GdbError}
+use Rattle.gdb_tables.specs.Cause.{IsScanCause}
+use Rattle.gdb_tables.specs.PlacedIn.{NameSections, of_object, is_counted, placed_in}
+use Rattle.gdb_tables.specs.Scan.{ObjectScan, IsScanOf, AreScansOf, placed_in_scan, placed_total}
+use Rattle.gdb_tables.specs.Scanned.{ScansObject}
+use Rattle.gdb_tables.specs.Files.{bytes_of, IsThere, ArePlacedIn, ArePlain, ScansObjects, FirstBadObject}
+
+-- how many placements count, object by object
+abbrev pub placed_from : Class → ℕ → List (List ℕ) → List Object → List Placement → ℕ
+placed_from c at [] os ps = 0
+placed_from c at (file ∷ files) [] ps = 0
+placed_from c at (file ∷ files) (o ∷ os) ps = cond (has_unit o.units) (placed_in c file at ps) 0 + placed_from c (at + 1) files os ps
+
+-- Some files hold objects, with the scans of these.
+pub record Scanned (c : Class) (files : List (List ℕ)) (ps : List Placement) (scans : List (Option ObjectScan)) : Type 0 where
+  pub objects : List Object
+  pub held : AreObjectsOf c files objects
+  pub plain : ArePlain c files
+  pub scanned : AreScansOf objects scans
+  pub placed : placed_total scans ≡ placed_from c 0 files objects ps
+
+pub scanned_none : (c : Class) (ps : List Placement) (scans : List (Option ObjectScan)) → scans ≡ [] → Scanned c [] ps scans
+scanned_none c ps scans none = record { objects = []; held = tt; plain = tt; scanned = subst (AreScansOf []) (sym none) tt; placed = ap placed_total none }
+
+-- ---- one object more
+
+held_push : (c : Class) (files : List (List ℕ)) (os : List Object) (file : List ℕ) (o : Object) → AreObjectsOf c files os → IsObjectOf c file o → AreObjectsOf c (files ++ file ∷ []) (os ++ o ∷ [])
+held_push c [] [] file o h is = (is, tt)
+held_push c [] (x ∷ os) file o h is = absurd h
+held_push c (f ∷ files) [] file o h is = absurd h
+held_push c (f ∷ files) (x ∷ os) file o h is = (h.0, held_push c files os file o h.1 is)
+
+plain_push : (c : Class) (files : List (List ℕ)) (file : List ℕ) → ArePlain c files → first_compressed c file ≡ None → ArePlain c (files ++ file ∷ [])
+plain_push c [] file h is = (is, tt)
+plain_push c (f ∷ files) file h is = (h.0, plain_push c files file h.1 is)
+
+scans_push : (os : List Object) (ss : List (Option ObjectScan)) (o : Object) (s : Option ObjectScan) → AreScansOf os ss → IsScanOf o s → AreScansOf (os ++ o ∷ []) (ss ++ s ∷ [])
+scans_push [] [] o s h is = (is, tt)
+scans_push [] (x ∷ ss) o s h is = absurd h
+scans_push (x ∷ os) [] o s h is = absurd h
+scans_push (x ∷ os) (y ∷ ss) o s h is = (h.0, scans_push os ss o s h.1 is)
+
+placed_push : (c : Class) (at : ℕ) (files : List (List ℕ)) (os : List Object) (file : List ℕ) (o : Object) (ps : List Placement) → AreObjectsOf c files os → placed_from c at (files ++ file ∷ []) (os ++ o ∷ []) ps ≡ placed_from c at files os ps + cond (has_unit o.units) (placed_in c file (at + length files) ps) 0
+placed_push c at [] [] file o ps h = let same : at + 0 ≡ at = omega arith in rw same (omega arith)
+placed_push c at [] (x ∷ os) file o ps h = absurd h
+placed_push c at (f ∷ files) [] file o ps h = absurd h
+placed_push c at (f ∷ files) (x ∷ os) file o ps h =
+    let next : at + 1 + length files ≡ at + length (f ∷ files) = omega arith in
+    let rest = placed_push c (at + 1) files os file o ps h.1 in
+    ap (λ n. cond (has_unit x.units) (placed_in c f at ps) 0 + n) (rest ∙ ap (λ n. placed_from c (at + 1) files os ps + cond (has_unit o.units) (placed_in c file n ps) 0) next) ∙ omega arith
+
+total_push : (ss : List (Option ObjectScan)) (s : Option ObjectScan) → placed_total (ss ++ s ∷ []) ≡ placed_total ss + placed_in_scan s
+total_push [] s = omega (arith, sum_by-cons (λ (x : ℕ). x) (placed_in_scan s) [])
+total_push (x ∷ ss) s = omega (arith, total_push ss s, sum_by-cons (λ (x : ℕ). x) (placed_in_scan x) (map placed_in_scan (ss ++ s ∷ [])), sum_by-cons (λ (x : ℕ). x) (placed_in_scan x) (map placed_in_scan ss))
+
+pub scanned_more : (c : Class) (files : List (List ℕ)) (ps : List Placement) (scans new : List (Option ObjectScan)) (file : List ℕ) (s : Option ObjectScan) (object : ℕ) → object ≡ length files → new ≡ scans ++ s ∷ [] → Scanned c files ps scans → ScansObject c file object ps s → Scanned c (files ++ file ∷ []) ps new
+scanned_more c files ps scans new file s object at pushed before one = subst (Scanned c (files ++ file ∷ []) ps) (sym pushed) record {
+  objects = before.objects ++ one.held ∷ [];
+  held = held_push c files before.objects file one.held before.held one.is_object;
+  plain = plain_push c files file before.plain one.plain;
+  scanned = scans_push before.objects scans one.held s before.scanned one.is_scan;
+  placed =
+      total_push scans s
+      ∙ ap (λ n. n + placed_in_scan s) before.placed
+      ∙ ap (λ n. placed_from c 0 files before.objects ps + n) (one.placed ∙ ap (λ n. cond (has_unit one.held.units) (placed_in c file n ps) 0) (at ∙ omega arith))
+      ∙ sym (placed_push c 0 files before.objects file one.held ps before.held);
+}
+
+-- ---- the placements that count, object by object and all at once
+
+one_if : Bool → ℕ
+one_if b = cond b 1 0
+
+count_next : {X : Type 0} (p : X → Bool) (x : X) (xs : List X) → length (filter p (x ∷ xs)) ≡ one_if (p x) + length (filter p xs)
+unfolding one_if
+count_next p x xs = by (p x) refl where
+  by : (b : Bool) → p x ≡ b → length (filter p (x ∷ xs)) ≡ cond (p x) 1 0 + length (filter p xs)
+  by true is = rw is (omega arith)
+  by false is = rw is (omega arith)
+
+-- whether a placement counts for one of some objects, of which the first has the number `at`
+counted_from : Class → ℕ → List (List ℕ) → List Object → Placement → ℕ
+counted_from c at [] os p = 0
+counted_from c at (file ∷ files) [] p = 0
+counted_from c at (file ∷ files) (o ∷ os) p = cond (has_unit o.units) (cond (eqb p.object at) (one_if (is_counted c file p)) 0) 0 + counted_from c (at + 1) files os p
+
+-- of one placement more, the counts of an object rise by this
+one_more : (c : Class) (file : List ℕ) (at : ℕ) (p : Placement) (ps : List Placement) → placed_in c file at (p ∷ ps) ≡ cond (eqb p.object at) (one_if (is_counted c file p)) 0 + placed_in c file at ps
+one_more c file at p ps = by (eqb p.object at) refl where
+  by : (b : Bool) → eqb p.object at ≡ b → placed_in c file at (p ∷ ps) ≡ cond (eqb p.object at) (one_if (is_counted c file p)) 0 + placed_in c file at ps
+  by true is = rw is (count_next (is_counted c file) p (of_object at ps))
+  by false is = rw is (omega arith)
+
+from_next : (c : Class) (at : ℕ) (files : List (List ℕ)) (os : List Object) (p : Placement) (ps : List Placement) → placed_from c at files os (p ∷ ps) ≡ counted_from c at files os p + placed_from c at files os ps
+unfolding counted_from
+from_next c at [] os p ps = refl
+from_next c at (file ∷ files) [] p ps = refl
+from_next c at (file ∷ files) (o ∷ os) p ps = by (has_unit o.units) refl (from_next c (at + 1) files os p ps) where
+  by : (b : Bool) → has_unit o.units ≡ b → placed_from c (at + 1) files os (p ∷ ps) ≡ counted_from c (at + 1) files os p + placed_from c (at + 1) files os ps → placed_from c at (file ∷ files) (o ∷ os) (p ∷ ps) ≡ (cond (has_unit o.units) (cond (eqb p.object at) (one_if (is_counted c file p)) 0) 0 + counted_from c (at + 1) files os p) + placed_from c at (file ∷ files) (o ∷ os) ps
+  by true is rest = rw is (omega (arith, rest, one_more c file at p ps))
+  by false is rest = rw is (omega (arith, rest))
+
+from_none : (c : Class) (at : ℕ) (files : List (List ℕ)) (os : List Object) → placed_from c at files os [] ≡ 0
+from_none c at [] os = refl
+from_none c at (file ∷ files) [] = refl
+from_none c at (file ∷ files) (o ∷ os) = by (has_unit o.units) refl (from_none c (at + 1) files os) where
+  by : (b : Bool) → has_unit o.units ≡ b → placed_from c (at + 1) files os [] ≡ 0 → placed_from c at (file ∷ files) (o ∷ os) [] ≡ 0
+  by true is rest = rw is (omega (arith, rest))
+  by false is rest = rw is (omega (arith, rest))
+
+nothing : (b : Bool) (n : ℕ) → cond b n n ≡ n
+nothing true n = refl
+nothing false n = refl
+
+-- a placement below the first number counts for none
+counted_below : (c : Class) (at : ℕ) (files : List (List ℕ)) (os : List Object) (p : Placement) → p.object < at → counted_from c at files os p ≡ 0
+unfolding counted_from
+counted_below c at [] os p l = refl
+counted_below c at (file ∷ files) [] p l = refl
+counted_below c at (file ∷ files) (o ∷ os) p l =
+    let differ : eqb p.object at ≡ false = false_from_ne_true _ (λ t. omega (arith, eqb-true p.object at t)) in
+    rw differ (omega (arith, counted_below c (at + 1) files os p (omega arith), nothing (has_unit o.units) 0))
+
+both : (b t : Bool) → cond b (one_if t) 0 ≡ one_if (t && b)
+unfolding one_if
+both true true = refl
+both true false = refl
+both false true = refl
+both false false = refl
+
+counted_once : (c : Class) (at n : ℕ) (files : List (List ℕ)) (os : List Object) (p : Placement) → AreObjectsOf c files os → p.object ≡ at + n → counted_from c at files os p ≡ one_if (counts_in c (slice_get files n) (slice_get os n) p)
+unfolding counted_from one_if
+counted_once c at n [] [] p h is = refl
+counted_once c at n [] (o ∷ os) p h is = absurd h
+counted_once c at n (file ∷ files) [] p h is = absurd h
+counted_once c at zero (file ∷ files) (o ∷ os) p h is =
+    let same : eqb p.object at ≡ true = eq-eqb p.object at (is ∙ omega arith) in
+    rw same (omega (arith, both (has_unit o.units) (is_counted c file p), counted_below c (at + 1) files os p (omega arith)))
+counted_once c at (suc n) (file ∷ files) (o ∷ os) p h is =
+    let differ : eqb p.object at ≡ false = false_from_ne_true _ (λ t. omega (arith, is, eqb-true p.object at t)) in
+    rw differ (omega (arith, counted_once c (at + 1) n files os p h.1 (is ∙ omega arith), nothing (has_unit o.units) 0))
+
+pub placed_is : (c : Class) (files : List (List ℕ)) (os : List Object) (ps : List Placement) → AreObjectsOf c files os → placed_from c 0 files os ps ≡ length (placed c files os ps)
+placed_is c files os [] h = from_none c 0 files os
+placed_is c files os (p ∷ ps) h =
+    from_next c 0 files os p ps
+    ∙ ap (λ n. n + placed_from c 0 files os ps) (counted_once c 0 p.object files os p h (omega arith))
+    ∙ ap (λ n. one_if (counts_in c (slice_get files p.object) (slice_get os p.object) p) + n) (placed_is c files os ps h)
+    ∙ sym (count_next (λ q. counts_in c (slice_get files q.object) (slice_get os q.object) q) p ps)
+
+pub scans_objects : (c : Class) (files : List (List ℕ)) (ps : List Placement) (scans : List (Option ObjectScan)) → Scanned c files ps scans → ScansObjects c files ps scans
+scans_objects c files ps scans h = record { objects = h.objects; held = h.held; plain = h.plain; scanned = h.scanned; placed = h.placed ∙ placed_is c files h.objects ps h.held }
+
+-- ---- the files one by one
+
+pub take_next : (files : List Parsed) (i : ℕ) (f : Parsed) → i < length files → f ≡ get_or files i f → take (i + 1) (bytes_of files) ≡ take i (bytes_of files) ++ f.bytes ∷ []
+take_next [] i f l is = absurd (omega arith)
+take_next (x ∷ files) zero f l is = ap (λ (y : Parsed). y.bytes ∷ []) (sym is)
+take_next (x ∷ files) (suc i) f l is =
+    let more : suc i + 1 ≡ suc (i + 1) = omega arith in
+    ap (λ n. take n (bytes_of (x ∷ files))) more ∙ ap (λ l. x.bytes ∷ l) (take_next files i f (omega arith) is)
+
+pub take_all_files : (files : List Parsed) (i : ℕ) → length files ≤ i → take i (bytes_of files) ≡ bytes_of files
+take_all_files [] zero le = refl
+take_all_files [] (suc i) le = refl
+take_all_files (x ∷ files) zero le = absurd (omega arith)
+take_all_files (x ∷ files) (suc i) le = ap (λ l. x.bytes ∷ l) (take_all_files files i (omega arith))
+
+pub file_at : (files : List Parsed) (i : ℕ) (f : Parsed) → i < length files → f ≡ get_or files i f → slice_get (bytes_of files) i ≡ Some f.bytes
+file_at [] i f l is = absurd (omega arith)
+file_at (x ∷ files) zero f l is = ap (λ (y : Parsed). Some y.bytes) (sym is)
+file_at (x ∷ files) (suc i) f l is = file_at files i f (omega arith) is
+
+pub taken_length : (files : List Parsed) (i : ℕ) → i ≤ length files → i ≡ length (take i (bytes_of files))
+taken_length files zero le = refl
+taken_length [] (suc i) le = absurd (omega arith)
+taken_length (x ∷ files) (suc i) le = ap suc (taken_length files i (omega arith))
+
+pub names_sections_of : (c : Class) (files : List (List ℕ)) (ps : List Placement) (object : ℕ) (file : List ℕ) → ArePlacedIn c files ps → slice_get files object ≡ Some file → NameSections c file object ps
+names_sections_of c files ps object file placed there k d l same = there_is (slice_get files (get_or ps k d).object) (ap (slice_get files) same ∙ there) (placed.there k d l) where
+  there_is : (o : Option (List ℕ)) → o ≡ Some file → IsThere c o (get_or ps k d).section → (get_or ps k d).section < length (sections c file)
+  there_is None e h = absurd h
+  there_is (Some x) e h = let is : x ≡ file = cc e in subst (λ y. (get_or ps k d).section < length (sections c y)) is h
+
+pub first_bad_object : (c : Class) (files : List (List ℕ)) (ps : List Placement) (scans : List (Option ObjectScan)) (object : ℕ) (file : List ℕ) (e : GdbError) → slice_get files object ≡ Some file → Scanned c (take object files) ps scans → IsScanCause c object file e → FirstBadObject c files e
+first_bad_object c files ps scans object file e there before cause = record { object = object; file = file; there = there; before = before.objects; held = before.held; plain = before.plain; cause = cause }

@@ -1,0 +1,33 @@
+use Rattle.std.proofs.Common.{◌≡◌, ◌++◌, ◌∷◌, [], Err, take, ap, sym, subst, ◌∙◌, arith}
+use Rattle.std.proofs.lemmas.Grind.{common_steps}
+use Rattle.std.proofs.lemmas.Result.{err_from_is_err_and}
+use Rattle.gdb_tables.specs.declared.error.GdbError.TheVariants.{NoMemory}
+use Rattle.gdb_tables.specs.Files.{bytes_of, IsFilesCause, in_object, no_memory}
+use Rattle.gdb_tables.proofs.Causes.{holds_of}
+use Rattle.gdb_tables.proofs.Scanning.{Scanned, scanned_more, scans_objects, take_next, take_all_files, taken_length, file_at, first_bad_object}
+use Rattle.gdb_tables.proofs.files.scan_objects.Goals as goal
+
+pub returns-in_err-push-in-Ok-clause-cause : goal.returns-in_err-push-in-Ok-clause-cause
+returns-in_err-push-in-Ok-clause-cause g c =
+    let p = err_from_is_err_and c.from_residual.result c.from_residual.ensures.1 in
+    holds_of (IsFilesCause g.C.ElfClass.class (bytes_of c.args.files.now)) c.from_residual.result NoMemory (p.1 ∙ ap (λ e. Err e) p.2) no_memory
+
+pub returns-in-Err-clause-cause : goal.returns-in-Err-clause-cause
+returns-in-Err-clause-cause g c =
+    let i = c.loop-object.object in
+    let f = c.index-files-object.result in
+    in_object c.in-Err.error (first_bad_object g.C.ElfClass.class (bytes_of c.args.files.now) c.args.placements.now c.loop-object.scans.items i f.bytes c.in-Err.error (file_at c.args.files.now i f (omega arith) c.index-files-object.is) c.loop-object.invariant.done c.in-Err.ensures.cause)
+
+pub loop-object-preserved : goal.loop-object-preserved
+loop-object-preserved g c =
+    let i = c.loop-object.object in
+    let f = c.index-files-object.result in
+    let class = g.C.ElfClass.class in
+    let items : c.push.new.self.items ≡ c.loop-object.scans.items ++ c.in-Ok.scan ∷ [] = grind (arith, common_steps) in
+    record {
+      done = subst (λ fs. Scanned class fs c.args.placements.now c.push.new.self.items) (sym (take_next c.args.files.now i f (omega arith) c.index-files-object.is))
+          (scanned_more class (take i (bytes_of c.args.files.now)) c.args.placements.now c.loop-object.scans.items c.push.new.self.items f.bytes c.in-Ok.scan i (taken_length c.args.files.now i (omega arith)) items c.loop-object.invariant.done c.in-Ok.ensures.scan);
+    }
+
+pub returns-clause-scans : goal.returns-clause-scans
+returns-clause-scans g c = scans_objects g.C.ElfClass.class (bytes_of c.args.files.now) c.args.placements.now c.loop-object.scans.items (subst (λ fs. Scanned g.C.ElfClass.class fs c.args.placements.now c.loop-object.scans.items) (take_all_files c.args.files.now c.loop-object.object (omega arith)) c.loop-object.invariant.done)

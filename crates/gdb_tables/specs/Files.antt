@@ -1,0 +1,55 @@
+-- What the scans of all objects say of their bytes.
+use Rattle.std.specs.Prelude.{◌≡◌, ℕ, ◌+◌, ◌*◌, ◌<◌, ◌≤◌, cond, List, [], ◌∷◌, length, map, take, slice_get, Option, Some, None}
+use Rattle.std.specs.List.{All, AllByRecursion}
+use Rattle.elf_format.specs.Class.{Class}
+use Rattle.elf_format.specs.Section.{sections}
+use Rattle.elf_view.specs.Parsed.{Parsed}
+use Rattle.gdb_index_format.specs.declared.placement.Placement.{Placement}
+use Rattle.gdb_index_format.specs.Published.{Object}
+use Rattle.gdb_index_format.specs.Objects.{AreObjectsOf, first_compressed}
+use Rattle.gdb_index_format.specs.Placed.{has_unit, placed}
+use Rattle.gdb_tables.specs.declared.error.GdbError.{GdbError}
+use Rattle.gdb_tables.specs.declared.error.GdbError.TheVariants.{NoMemory}
+use Rattle.gdb_tables.specs.Cause.{IsScanCause}
+use Rattle.gdb_tables.specs.PlacedIn.{ArePlacements, placed_in}
+use Rattle.gdb_tables.specs.Scan.{ObjectScan, AreScansOf, placed_total}
+
+abbrev pub bytes_of : List Parsed → List (List ℕ)
+bytes_of files = map (λ f. f.bytes) files
+
+-- a section of an object that is there
+abbrev pub IsThere : Class → Option (List ℕ) → ℕ → Type 0
+IsThere c None section = ⊥
+IsThere c (Some file) section = section < length (sections c file)
+
+-- Placements in their order, whose ends fit 64 bits, each of an object and a section that are there.
+pub record ArePlacedIn (c : Class) (files : List (List ℕ)) (ps : List Placement) : Type 0 where
+  pub in_order : ArePlacements ps
+  pub there : All (λ p. IsThere c (slice_get files p.object) p.section) ps
+
+-- no section of these files that is read is compressed
+abbrev pub ArePlain : Class → List (List ℕ) → Type 0
+ArePlain c files = AllByRecursion (λ file. first_compressed c file ≡ None) files
+
+-- Files that hold objects, with the scans of these.
+pub record ScansObjects (c : Class) (files : List (List ℕ)) (ps : List Placement) (scans : List (Option ObjectScan)) : Type 0 where
+  pub objects : List Object
+  pub held : AreObjectsOf c files objects
+  pub plain : ArePlain c files
+  pub scanned : AreScansOf objects scans
+  pub placed : placed_total scans ≡ length (placed c files objects ps)
+
+-- The first object that is not scanned, and why: those before it are sound.
+pub record FirstBadObject (c : Class) (files : List (List ℕ)) (e : GdbError) : Type 0 where
+  pub object : ℕ
+  pub file : List ℕ
+  pub there : slice_get files object ≡ Some file
+  pub before : List Object
+  pub held : AreObjectsOf c (take object files) before
+  pub plain : ArePlain c (take object files)
+  pub cause : IsScanCause c object file e
+
+-- why the objects are not scanned; want of memory needs no cause
+pub data IsFilesCause (c : Class) (files : List (List ℕ)) : GdbError → Type 0 where
+  in_object : (e : GdbError) → FirstBadObject c files e → IsFilesCause c files e
+  no_memory : IsFilesCause c files NoMemory

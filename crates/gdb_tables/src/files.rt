@@ -1,0 +1,38 @@
+//! The scans of all objects.
+
+ghost use Rattle.std.specs.Prelude.{◌≡◌, ℕ, ◌^◌, ◌<◌, List, length, IfOk, IfErr};
+ghost use Rattle.std.specs.List.{All};
+ghost use Rattle.gdb_tables.specs.Files.{bytes_of, ArePlacedIn, ScansObjects, IsFilesCause};
+
+use crate::error::GdbError;
+use crate::object_scan::PerObjectScan;
+use crate::scan::scan_one_object;
+use elf_view::File;
+use elf_words::ElfClass;
+use gdb_index_format::Placement;
+use std::alloc::Global;
+
+/// The scans of all objects, in input order. It is refused for the first object that is not scanned, as
+/// `scan_one_object` refuses it.
+///
+/// Each file has fewer than 2^39 bytes. The placements ascend by object and section, name objects and sections
+/// that are there, and their ends fit 64 bits.
+pub fn scan_objects<'a, C: ElfClass>(
+    alloc: Global,
+    files: &[File<'a, C>],
+    placements: &[Placement],
+) -> Result<Vec<Option<PerObjectScan<'a>>>, GdbError>
+    requires small { All (λ file. length file.bytes < 2 ^ 39) files.now }
+    requires placements { ArePlacedIn C.class (bytes_of files.now) placements.now }
+    ensures scans { IfOk result (λ scans. ScansObjects C.class (bytes_of files.now) placements.now scans.items) }
+    ensures cause { IfErr result (IsFilesCause C.class (bytes_of files.now)) }
+{
+    let mut scans = Vec::new(alloc);
+    for (object, file) in files.iter().enumerate() {
+        match scan_one_object(alloc, object, file, placements) {
+            Ok(scan) => scans.push(scan)?,
+            Err(error) => return Err(error),
+        }
+    }
+    Ok(scans)
+}
