@@ -10,3 +10,6 @@ pub mod Publishing
 pub mod Listing
 pub mod Merging
 pub mod Scanning
+pub mod Weighing
+pub mod Counting
+pub mod IndexSizes

@@ -15,7 +15,7 @@ use Rattle.gdb_tables.proofs.Pairing.{groups_alike, HaveSome, HaveSome-firsts}
 use Rattle.gdb_tables.proofs.Publishing.{as_pair, as_pairs, scans_published}
 
 -- the values of a name among pairs are its words
-words_are : (ps : List Pair) (name : Name) → values_of name (as_pairs ps) ≡ words_in_order name ps
+pub words_are : (ps : List Pair) (name : Name) → values_of name (as_pairs ps) ≡ words_in_order name ps
 words_are [] name = refl
 words_are (p ∷ ps) name =
     elim (cases_Bool (bytes_eq p.name name)) [

@@ -32,7 +32,7 @@ others-twice m (f ∷ fs) =
       | inr kept ↦ ap (others m) (others-kept m f fs kept) ∙ others-kept m f (others m fs) kept ∙ ap (λ xs. f ∷ xs) (others-twice m fs) ∙ sym (others-kept m f fs kept)
     ]
 
-others-lacks : (m : Name) (fs : List Name) → Lacks m fs → others m fs ≡ fs
+pub others-lacks : (m : Name) (fs : List Name) → Lacks m fs → others m fs ≡ fs
 others-lacks m [] h = refl
 others-lacks m (f ∷ fs) h = others-kept m f fs (differ-sym m f h.0) ∙ ap (λ xs. f ∷ xs) (others-lacks m fs h.1)
 

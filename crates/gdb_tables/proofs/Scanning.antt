@@ -1,9 +1,10 @@
 -- The scans of all objects, one by one.
-use Rattle.std.proofs.Common.{◌≡◌, ℕ, zero, suc, ◌+◌, ◌-◌, ◌^◌, ◌<◌, ◌≤◌, Bool, true, false, cond, eqb, ltb, ◌&&◌, List, [], ◌∷◌, ◌++◌, length, take, get_or, map, Option, Some, None, refl, sym, ap, subst, ◌∙◌, arith}
+use Rattle.std.proofs.Common.{◌≡◌, ℕ, zero, suc, ◌+◌, ◌-◌, ◌*◌, ◌^◌, ◌<◌, ◌≤◌, Bool, true, false, cond, eqb, ltb, ◌&&◌, List, [], ◌∷◌, ◌++◌, length, take, get_or, map, Option, Some, None, refl, sym, ap, subst, ◌∙◌, arith}
 use Rattle.std.specs.Prelude.{slice_get, sum}
 use Rattle.std.specs.List.{All, AllByRecursion, filter}
 use Rattle.std.proofs.lemmas.Bool.{eqb-true, eqb-false, eq-eqb, false_from_ne_true, cases_lt}
-use Rattle.std.proofs.lemmas.List.{append-nil}
+use Rattle.std.proofs.lemmas.List.{append-nil, length-append}
+use Rattle.gdb_tables.proofs.Weighing.{objects_weight, weight_push, object_weight, published_weight}
 use Rattle.std.proofs.lemmas.List.Sums.{sum_by-append, sum_by-cons}
 use Rattle.elf_format.specs.Class.{Class}
 use Rattle.elf_format.specs.Section.{sections}
@@ -16,7 +17,7 @@ use Rattle.gdb_tables.specs.declared.error.GdbError.{GdbError}
 use Rattle.gdb_tables.specs.Cause.{IsScanCause}
 use Rattle.gdb_tables.specs.PlacedIn.{NameSections, of_object, is_counted, placed_in}
 use Rattle.gdb_tables.specs.Scan.{ObjectScan, IsScanOf, AreScansOf, placed_in_scan, placed_total}
-use Rattle.gdb_tables.specs.Scanned.{ScansObject}
+use Rattle.gdb_tables.specs.Scanned.{ScansObject, HasRoom}
 use Rattle.gdb_tables.specs.Files.{bytes_of, IsThere, ArePlacedIn, ArePlain, ScansObjects, FirstBadObject}
 
 -- how many placements count, object by object
@@ -32,9 +33,11 @@ pub record Scanned (c : Class) (files : List (List ℕ)) (ps : List Placement) (
   pub plain : ArePlain c files
   pub scanned : AreScansOf objects scans
   pub placed : placed_total scans ≡ placed_from c 0 files objects ps
+  pub small : objects_weight objects ≤ length files * 2 ^ 73
+  pub few : placed_total scans ≤ length files * 2 ^ 39
 
 pub scanned_none : (c : Class) (ps : List Placement) (scans : List (Option ObjectScan)) → scans ≡ [] → Scanned c [] ps scans
-scanned_none c ps scans none = record { objects = []; held = tt; plain = tt; scanned = subst (AreScansOf []) (sym none) tt; placed = ap placed_total none }
+scanned_none c ps scans none = record { objects = []; held = tt; plain = tt; scanned = subst (AreScansOf []) (sym none) tt; placed = ap placed_total none; small = omega arith; few = omega (arith, ap placed_total none) }
 
 -- ---- one object more
 
@@ -67,8 +70,15 @@ total_push : (ss : List (Option ObjectScan)) (s : Option ObjectScan) → placed_
 total_push [] s = omega (arith, sum_by-cons (λ (x : ℕ). x) (placed_in_scan s) [])
 total_push (x ∷ ss) s = omega (arith, total_push ss s, sum_by-cons (λ (x : ℕ). x) (placed_in_scan x) (map placed_in_scan (ss ++ s ∷ [])), sum_by-cons (λ (x : ℕ). x) (placed_in_scan x) (map placed_in_scan ss))
 
-pub scanned_more : (c : Class) (files : List (List ℕ)) (ps : List Placement) (scans new : List (Option ObjectScan)) (file : List ℕ) (s : Option ObjectScan) (object : ℕ) → object ≡ length files → new ≡ scans ++ s ∷ [] → Scanned c files ps scans → ScansObject c file object ps s → Scanned c (files ++ file ∷ []) ps new
-scanned_more c files ps scans new file s object at pushed before one = subst (Scanned c (files ++ file ∷ []) ps) (sym pushed) record {
+placed_short : (c : Class) (file : List ℕ) (object : ℕ) (ps : List Placement) (o : Object) (s : Option ObjectScan) → length file < 2 ^ 39 → placed_in c file object ps ≤ length (sections c file) → placed_in_scan s ≡ cond (has_unit o.units) (placed_in c file object ps) 0 → HasRoom c file s → placed_in_scan s ≤ 2 ^ 39
+placed_short c file object ps o None short own is room = omega arith
+placed_short c file object ps o (Some s) short own is room = omega (arith, is, at_most (has_unit o.units) (placed_in c file object ps)) where
+  at_most : (b : Bool) (n : ℕ) → cond b n 0 ≤ n
+  at_most true n = omega arith
+  at_most false n = omega arith
+
+pub scanned_more : (c : Class) (files : List (List ℕ)) (ps : List Placement) (scans new : List (Option ObjectScan)) (file : List ℕ) (s : Option ObjectScan) (object : ℕ) → object ≡ length files → new ≡ scans ++ s ∷ [] → length file < 2 ^ 39 → placed_in c file object ps ≤ length (sections c file) → Scanned c files ps scans → ScansObject c file object ps s → Scanned c (files ++ file ∷ []) ps new
+scanned_more c files ps scans new file s object at pushed short own before one = subst (Scanned c (files ++ file ∷ []) ps) (sym pushed) record {
   objects = before.objects ++ one.held ∷ [];
   held = held_push c files before.objects file one.held before.held one.is_object;
   plain = plain_push c files file before.plain one.plain;
@@ -78,6 +88,8 @@ scanned_more c files ps scans new file s object at pushed before one = subst (Sc
       ∙ ap (λ n. n + placed_in_scan s) before.placed
       ∙ ap (λ n. placed_from c 0 files before.objects ps + n) (one.placed ∙ ap (λ n. cond (has_unit one.held.units) (placed_in c file n ps) 0) (at ∙ omega arith))
       ∙ sym (placed_push c 0 files before.objects file one.held ps before.held);
+  small = omega (arith, before.small, weight_push before.objects one.held, object_weight c file one.held s short one.is_object one.is_scan one.room, length-append files (file ∷ []));
+  few = omega (arith, total_push scans s, before.few, placed_short c file object ps one.held s short own one.placed one.room, length-append files (file ∷ []));
 }
 
 -- ---- the placements that count, object by object and all at once
@@ -163,7 +175,7 @@ placed_is c files os (p ∷ ps) h =
     ∙ sym (count_next (λ q. counts_in c (slice_get files q.object) (slice_get os q.object) q) p ps)
 
 pub scans_objects : (c : Class) (files : List (List ℕ)) (ps : List Placement) (scans : List (Option ObjectScan)) → Scanned c files ps scans → ScansObjects c files ps scans
-scans_objects c files ps scans h = record { objects = h.objects; held = h.held; plain = h.plain; scanned = h.scanned; placed = h.placed ∙ placed_is c files h.objects ps h.held }
+scans_objects c files ps scans h = record { objects = h.objects; held = h.held; plain = h.plain; scanned = h.scanned; placed = h.placed ∙ placed_is c files h.objects ps h.held; small = omega (arith, h.small, published_weight 0 h.objects); few = h.few }
 
 -- ---- the files one by one
 

@@ -64,7 +64,7 @@ chosen false true n x b short e = omega (arith, ap length (same e)) where
   same e = cc e
 chosen false false n x b short e = absurd (cc e)
 
-section_short : (c : Class) (file header b : List ℕ) → section_bytes c file header ≡ Some b → length b ≤ length file
+pub section_short : (c : Class) (file header b : List ℕ) → section_bytes c file header ≡ Some b → length b ≤ length file
 unfolding section_bytes
 section_short c file header b e = chosen _ _ (length file) _ b (part (get (Rattle.elf_format.specs.Class.sh_offset c) header) (get (Rattle.elf_format.specs.Class.sh_size c) header) file) e where
   part : (at size : ℕ) (file : List ℕ) → length (take size (drop at file)) ≤ length file
@@ -162,7 +162,7 @@ gathered_groups c file us gs h = h.published ∙ groups-add_all [] (marks_of us 
 
 -- ---- placements
 
-filter_le : {X : Type 0} (p : X → Bool) (xs : List X) → length (filter p xs) ≤ length xs
+pub filter_le : {X : Type 0} (p : X → Bool) (xs : List X) → length (filter p xs) ≤ length xs
 filter_le p [] = omega arith
 filter_le p (x ∷ xs) = by (p x) refl (filter_le p xs) where
   by : (b : Bool) → p x ≡ b → length (filter p xs) ≤ length xs → length (filter p (x ∷ xs)) ≤ length (x ∷ xs)
@@ -217,13 +217,14 @@ with_unit : (us : List CuBoundary) (n : ℕ) → 0 < length us → n ≡ cond (h
 with_unit [] n some = absurd (omega arith)
 with_unit (u ∷ us) n some = refl
 
-pub scanned : (c : Class) (file : List ℕ) (object : ℕ) (ps : List Placement) (us : List CuBoundary) (gs : List (Name × List Mark)) (placed : ℕ) (scan : ObjectScan) → scan ≡ record { units = us; names = gs; placed = placed } → IsUnitsOf c file us → 0 < length us → GathersNames c file us gs → first_compressed c file ≡ None → placed ≡ placed_in c file object ps → ScansObject c file object ps (Some scan)
-scanned c file object ps us gs placed scan is units some gathered plain count = record {
+pub scanned : (c : Class) (file : List ℕ) (object : ℕ) (ps : List Placement) (us : List CuBoundary) (gs : List (Name × List Mark)) (placed : ℕ) (scan : ObjectScan) → scan ≡ record { units = us; names = gs; placed = placed } → IsUnitsOf c file us → 0 < length us → GathersNames c file us gs → first_compressed c file ≡ None → placed ≡ placed_in c file object ps → 40 * length (sections c file) ≤ length file → ScansObject c file object ps (Some scan)
+scanned c file object ps us gs placed scan is units some gathered plain count room = record {
   held = record { units = us; sets = gathered.sets };
   is_object = record { units = units; sets = beside c file us gathered.sets some gathered.list };
   plain = plain;
   is_scan = (ap (λ (s : ObjectScan). s.units) is, ap (λ (s : ObjectScan). s.names) is ∙ gathered_groups c file us gs gathered);
   placed = ap (λ (s : ObjectScan). s.placed) is ∙ count ∙ with_unit us (placed_in c file object ps) some;
+  room = room;
 }
 
 pub nil_from : {X : Type 0} (xs : List X) → length xs ≡ 0 → xs ≡ []
@@ -237,6 +238,7 @@ scanned_none c file object ps us units none plain = record {
   plain = plain;
   is_scan = refl;
   placed = refl;
+  room = tt;
 }
 
 pub fails_in_names : (c : Class) (object : ℕ) (file : List ℕ) (us : List CuBoundary) (e : GdbError) → IsUnitsOf c file us → 0 < length us → IsNamesCause c object file e → FailsInNames c object file e

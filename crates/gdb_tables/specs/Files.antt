@@ -1,11 +1,11 @@
 -- What the scans of all objects say of their bytes.
-use Rattle.std.specs.Prelude.{◌≡◌, ℕ, ◌+◌, ◌*◌, ◌<◌, ◌≤◌, cond, List, [], ◌∷◌, length, map, take, slice_get, Option, Some, None}
-use Rattle.std.specs.List.{All, AllByRecursion}
+use Rattle.std.specs.Prelude.{◌≡◌, ℕ, ◌+◌, ◌*◌, ◌^◌, ◌<◌, ◌≤◌, cond, List, [], ◌∷◌, length, map, take, slice_get, Option, Some, None}
+use Rattle.std.specs.List.{All, AllByRecursion, sum_by}
 use Rattle.elf_format.specs.Class.{Class}
 use Rattle.elf_format.specs.Section.{sections}
 use Rattle.elf_view.specs.Parsed.{Parsed}
 use Rattle.gdb_index_format.specs.declared.placement.Placement.{Placement}
-use Rattle.gdb_index_format.specs.Published.{Object}
+use Rattle.gdb_index_format.specs.Published.{Object, published}
 use Rattle.gdb_index_format.specs.Objects.{AreObjectsOf, first_compressed}
 use Rattle.gdb_index_format.specs.Placed.{has_unit, placed}
 use Rattle.gdb_tables.specs.declared.error.GdbError.{GdbError}
@@ -31,13 +31,20 @@ pub record ArePlacedIn (c : Class) (files : List (List ℕ)) (ps : List Placemen
 abbrev pub ArePlain : Class → List (List ℕ) → Type 0
 ArePlain c files = AllByRecursion (λ file. first_compressed c file ≡ None) files
 
--- Files that hold objects, with the scans of these.
+-- the bytes of all published names, with two more for each
+abbrev pub published_bytes : List Object → ℕ
+published_bytes os = sum_by (λ p. length p.name + 2) (published os)
+
+-- Files that hold objects, with the scans of these. Their number bounds what they
+-- publish, and how many of their sections are placed.
 pub record ScansObjects (c : Class) (files : List (List ℕ)) (ps : List Placement) (scans : List (Option ObjectScan)) : Type 0 where
   pub objects : List Object
   pub held : AreObjectsOf c files objects
   pub plain : ArePlain c files
   pub scanned : AreScansOf objects scans
   pub placed : placed_total scans ≡ length (placed c files objects ps)
+  pub small : published_bytes objects ≤ length files * 2 ^ 73
+  pub few : placed_total scans ≤ length files * 2 ^ 39
 
 -- The first object that is not scanned, and why: those before it are sound.
 pub record FirstBadObject (c : Class) (files : List (List ℕ)) (e : GdbError) : Type 0 where

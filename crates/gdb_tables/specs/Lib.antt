@@ -8,3 +8,4 @@ pub mod Gathered
 pub mod Scanned
 pub mod Merged
 pub mod Files
+pub mod Sized

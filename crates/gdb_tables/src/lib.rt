@@ -12,6 +12,7 @@ mod object_names;
 mod object_scan;
 mod placed;
 mod scan;
+mod sizing;
 
 pub use error::GdbError;
 pub use files::scan_objects;
@@ -28,3 +29,4 @@ pub use mark::{Mark, NameMarks};
 pub use merge::merge_gdb_index_scans;
 pub use object_scan::PerObjectScan;
 pub use scan::scan_one_object;
+pub use sizing::compute_gdb_index_size;

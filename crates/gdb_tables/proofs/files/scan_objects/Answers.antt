@@ -1,11 +1,19 @@
-use Rattle.std.proofs.Common.{◌≡◌, ◌++◌, ◌∷◌, [], Err, take, ap, sym, subst, ◌∙◌, arith}
+use Rattle.std.proofs.Common.{◌≡◌, ◌^◌, ◌<◌, ◌++◌, ◌∷◌, [], length, Err, take, ap, sym, subst, ◌∙◌, arith}
 use Rattle.std.proofs.lemmas.Grind.{common_steps}
 use Rattle.std.proofs.lemmas.Result.{err_from_is_err_and}
+use Rattle.elf_view.specs.Parsed.{Parsed}
 use Rattle.gdb_tables.specs.declared.error.GdbError.TheVariants.{NoMemory}
 use Rattle.gdb_tables.specs.Files.{bytes_of, IsFilesCause, in_object, no_memory}
 use Rattle.gdb_tables.proofs.Causes.{holds_of}
-use Rattle.gdb_tables.proofs.Scanning.{Scanned, scanned_more, scans_objects, take_next, take_all_files, taken_length, file_at, first_bad_object}
+use Rattle.gdb_tables.proofs.Scanning.{Scanned, scanned_none, scanned_more, scans_objects, take_next, take_all_files, taken_length, file_at, first_bad_object, names_sections_of}
+use Rattle.gdb_tables.proofs.Sounding.{placed_few}
 use Rattle.gdb_tables.proofs.files.scan_objects.Goals as goal
+
+pub loop-object-init : goal.loop-object-init
+loop-object-init g c = record { done = scanned_none g.C.ElfClass.class c.args.placements.now c.new-scans.result.items c.new-scans.ensures.items }
+
+pub scan_one_object-requires-clause-named : goal.scan_one_object-requires-clause-named
+scan_one_object-requires-clause-named g c = names_sections_of g.C.ElfClass.class (bytes_of c.args.files.now) c.args.placements.now c.loop-object.object c.index-files-object.result.bytes c.requires.placements (file_at c.args.files.now c.loop-object.object c.index-files-object.result (omega arith) c.index-files-object.is)
 
 pub returns-in_err-push-in-Ok-clause-cause : goal.returns-in_err-push-in-Ok-clause-cause
 returns-in_err-push-in-Ok-clause-cause g c =
@@ -26,7 +34,7 @@ loop-object-preserved g c =
     let items : c.push.new.self.items ≡ c.loop-object.scans.items ++ c.in-Ok.scan ∷ [] = grind (arith, common_steps) in
     record {
       done = subst (λ fs. Scanned class fs c.args.placements.now c.push.new.self.items) (sym (take_next c.args.files.now i f (omega arith) c.index-files-object.is))
-          (scanned_more class (take i (bytes_of c.args.files.now)) c.args.placements.now c.loop-object.scans.items c.push.new.self.items f.bytes c.in-Ok.scan i (taken_length c.args.files.now i (omega arith)) items c.loop-object.invariant.done c.in-Ok.ensures.scan);
+          (scanned_more class (take i (bytes_of c.args.files.now)) c.args.placements.now c.loop-object.scans.items c.push.new.self.items f.bytes c.in-Ok.scan i (taken_length c.args.files.now i (omega arith)) items (subst (λ (x : Parsed). length x.bytes < 2 ^ 39) (sym c.index-files-object.is) (c.requires.small i f (omega arith))) (placed_few class f.bytes i c.args.placements.now c.requires.placements.in_order (names_sections_of class (bytes_of c.args.files.now) c.args.placements.now i f.bytes c.requires.placements (file_at c.args.files.now i f (omega arith) c.index-files-object.is))) c.loop-object.invariant.done c.in-Ok.ensures.scan);
     }
 
 pub returns-clause-scans : goal.returns-clause-scans

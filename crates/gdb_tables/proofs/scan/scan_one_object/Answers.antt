@@ -93,4 +93,4 @@ returns-clause-scan g c =
     let gathered : GathersNames class file us (shown c.in_ok-names.names.entries) = subst (λ xs. GathersNames class file xs (shown c.in_ok-names.names.entries)) c.deref.ensures.value c.in_ok-names.ensures.names in
     let named : groups_in c.in_ok-names-2.names.items ≡ shown c.in_ok-names.names.entries = ap groups_in c.in_ok-names-2.ensures ∙ listed_shows c.in_ok-names.names.entries in
     let count : c.count_placed-placed.result ≡ placed_in class file object c.args.placements.now = c.count_placed-placed.ensures ∙ ap (λ l. length (filter (is_counted class file) l)) c.placements_of.ensures in
-    scanned class file object c.args.placements.now us (shown c.in_ok-names.names.entries) c.count_placed-placed.result c.new.result (c.new.ensures ∙ ap (λ gs. record { units = us; names = gs; placed = c.count_placed-placed.result }) named) units some gathered plain count
+    scanned class file object c.args.placements.now us (shown c.in_ok-names.names.entries) c.count_placed-placed.result c.new.result (c.new.ensures ∙ ap (λ gs. record { units = us; names = gs; placed = c.count_placed-placed.result }) named) units some gathered plain count c.in_ok-names.ensures.fit

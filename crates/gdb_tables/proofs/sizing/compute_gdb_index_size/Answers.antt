@@ -1,0 +1,76 @@
+use Rattle.std.proofs.Common.{◌≡◌, ℕ, ◌^◌, ◌<◌, length, ap, sym, ◌∙◌, arith}
+use Rattle.std.proofs.lemmas.Grind.{common_steps}
+use Rattle.std.proofs.lemmas.List.{length-map}
+use Rattle.elf_view.specs.Parsed.{Parsed}
+use Rattle.gdb_tables.specs.Files.{bytes_of}
+use Rattle.gdb_tables.proofs.IndexSizes.{objects_cause, scans_as_files, merge_cause, gathered, sized_none, counts_small, sized_some, sized_large}
+use Rattle.gdb_tables.proofs.sizing.compute_gdb_index_size.Goals as goal
+
+pub returns-in-Err-clause-cause : goal.returns-in-Err-clause-cause
+returns-in-Err-clause-cause g c = objects_cause _ g.C.ElfClass.class (bytes_of c.args.files.now) c.args.placements.now c.in-Err.error c.in-Err.ensures.cause
+
+pub merge_gdb_index_scans-requires : goal.merge_gdb_index_scans-requires
+merge_gdb_index_scans-requires g c =
+    let class = g.C.ElfClass.class in
+    let files = bytes_of c.args.files.now in
+    let ps = c.args.placements.now in
+    let ss = c.in-Ok.scans.items in
+    let done = c.in-Ok.ensures.scans in
+    let few : length files < 2 ^ 24 = omega (arith, c.requires.few, length-map c.args.files.now (λ (f : Parsed). f.bytes)) in
+    omega (arith, few, scans_as_files class files ps ss done)
+
+pub returns-in-Err-merge_gdb_index_scans-clause-cause : goal.returns-in-Err-merge_gdb_index_scans-clause-cause
+returns-in-Err-merge_gdb_index_scans-clause-cause g c =
+    let class = g.C.ElfClass.class in
+    let files = bytes_of c.args.files.now in
+    let ps = c.args.placements.now in
+    let ss = c.in-Ok.scans.items in
+    let done = c.in-Ok.ensures.scans in
+    merge_cause _ class files ps ss c.in-Err-merge_gdb_index_scans.error done c.in-Err-merge_gdb_index_scans.ensures.cause
+
+pub returns-then-is_empty-clause-size : goal.returns-then-is_empty-clause-size
+returns-then-is_empty-clause-size g c =
+    let class = g.C.ElfClass.class in
+    let files = bytes_of c.args.files.now in
+    let ps = c.args.placements.now in
+    let ss = c.in-Ok.scans.items in
+    let done = c.in-Ok.ensures.scans in
+    let m = c.in-Ok-merge_gdb_index_scans.merged in
+    let all = gathered class files ps ss m done c.in-Ok-merge_gdb_index_scans.ensures.merged c.in-Ok-merge_gdb_index_scans.ensures.objects in
+    let none : length c.units.result.now ≡ 0 = grind (arith, common_steps) in
+    sized_none _ class files ps ss m done all (ap length (sym c.units.ensures.units) ∙ none)
+
+pub checked_index_size-requires : goal.checked_index_size-requires
+checked_index_size-requires g c =
+    let class = g.C.ElfClass.class in
+    let files = bytes_of c.args.files.now in
+    let ps = c.args.placements.now in
+    let ss = c.in-Ok.scans.items in
+    let done = c.in-Ok.ensures.scans in
+    let m = c.in-Ok-merge_gdb_index_scans.merged in
+    let all = gathered class files ps ss m done c.in-Ok-merge_gdb_index_scans.ensures.merged c.in-Ok-merge_gdb_index_scans.ensures.objects in
+    let few : length files < 2 ^ 24 = omega (arith, c.requires.few, length-map c.args.files.now (λ (f : Parsed). f.bytes)) in
+    counts_small class files ps ss m c.counts-counts.result done all few c.counts-counts.ensures
+
+pub returns-in-Ok-checked_index_size-clause-size : goal.returns-in-Ok-checked_index_size-clause-size
+returns-in-Ok-checked_index_size-clause-size g c =
+    let class = g.C.ElfClass.class in
+    let files = bytes_of c.args.files.now in
+    let ps = c.args.placements.now in
+    let ss = c.in-Ok.scans.items in
+    let done = c.in-Ok.ensures.scans in
+    let m = c.in-Ok-merge_gdb_index_scans.merged in
+    let all = gathered class files ps ss m done c.in-Ok-merge_gdb_index_scans.ensures.merged c.in-Ok-merge_gdb_index_scans.ensures.objects in
+    let some : 0 < length c.units.result.now = grind (arith, common_steps) in
+    sized_some _ class files ps ss m c.counts-counts.result c.in-Ok-checked_index_size.size done all (omega (arith, some, ap length c.units.ensures.units)) c.counts-counts.ensures (c.in-Ok-checked_index_size.ensures {u = tt})
+
+pub returns-clause-cause : goal.returns-clause-cause
+returns-clause-cause g c =
+    let class = g.C.ElfClass.class in
+    let files = bytes_of c.args.files.now in
+    let ps = c.args.placements.now in
+    let ss = c.in-Ok.scans.items in
+    let done = c.in-Ok.ensures.scans in
+    let m = c.in-Ok-merge_gdb_index_scans.merged in
+    let all = gathered class files ps ss m done c.in-Ok-merge_gdb_index_scans.ensures.merged c.in-Ok-merge_gdb_index_scans.ensures.objects in
+    sized_large _ class files ps ss m c.counts-counts.result c.in-Err-checked_index_size.field-0 done all c.counts-counts.ensures (c.in-Err-checked_index_size.ensures {u = tt})

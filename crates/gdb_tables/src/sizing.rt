@@ -1,0 +1,53 @@
+//! The size of the index of all objects, before it is written.
+
+ghost use Rattle.std.specs.Prelude.{◌^◌, ◌<◌, length, IfOk, IfErr};
+ghost use Rattle.std.specs.List.{All};
+ghost use Rattle.gdb_tables.specs.Files.{bytes_of, ArePlacedIn};
+ghost use Rattle.gdb_tables.specs.Sized.{SizesIndex, IsSizeCause};
+
+use crate::error::GdbError;
+use crate::files::scan_objects;
+use crate::merge::merge_gdb_index_scans;
+use elf_view::File;
+use elf_words::ElfClass;
+use gdb_index::{GdbIndexScanResult, INDEX_VERSION, IndexTooLarge, checked_index_size};
+use gdb_index_format::Placement;
+use std::alloc::Global;
+
+/// How many bytes the index of all objects has, with the scan that it is written from: 0 and none exactly where
+/// there is no unit.
+///
+/// The refusals, in this order: those of `scan_one_object` for the first object that is at fault; `TooManyUnits`
+/// exactly where all objects together have more than 16,777,216 units; `IndexTooLarge`, with the size, exactly
+/// where it is above 4,294,967,295. `NoMemory` may come at any objects.
+///
+/// There are fewer than 2^24 files, each of fewer than 2^39 bytes. The placements ascend by object and section,
+/// name objects and sections that are there, and their ends fit 64 bits.
+pub fn compute_gdb_index_size<'a, C: ElfClass>(
+    alloc: Global,
+    files: &[File<'a, C>],
+    placements: &[Placement],
+) -> Result<(u32, Option<GdbIndexScanResult<'a>>), GdbError>
+    requires few { length files.now < 2 ^ 24 }
+    requires small { All (λ file. length file.bytes < 2 ^ 39) files.now }
+    requires placements { ArePlacedIn C.class (bytes_of files.now) placements.now }
+    ensures size { IfOk result (λ sized. SizesIndex INDEX_VERSION C.class (bytes_of files.now) placements.now sized.0 sized.1) }
+    ensures cause { IfErr result (IsSizeCause INDEX_VERSION C.class (bytes_of files.now) placements.now) }
+{
+    let scans = match scan_objects(alloc, files, placements) {
+        Ok(scans) => scans,
+        Err(error) => return Err(error),
+    };
+    let merged = match merge_gdb_index_scans(alloc, scans) {
+        Ok(merged) => merged,
+        Err(error) => return Err(error),
+    };
+    if merged.units().is_empty() {
+        return Ok((0, None));
+    }
+    let counts = merged.counts();
+    match checked_index_size(&counts) {
+        Ok(size) => Ok((size, Some(merged))),
+        Err(IndexTooLarge(size)) => Err(GdbError::IndexTooLarge(size)),
+    }
+}
