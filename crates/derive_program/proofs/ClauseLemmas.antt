@@ -118,9 +118,9 @@ layout_only words held line wrong command texts said told =
     let texts_are = same_ok (read_of wrong.files wrong.command) texts wrong.texts (told_of held words line wrong command _ said told) wrong.read in
     ap (λ (t : Texts). layout_of t.layout) texts_are ∙ wrong.wrong
   where
-  told_of : (held : Contents) (words : List (List ℕ)) (line : ℕ) (wrong : IsWrongLayout held words line) (command : Tables) (r : Result Texts ReadError) → command_of words ≡ Ok command → IfSome held (λ files. read_of files command ≡ r) → read_of wrong.files wrong.command ≡ r
-  told_of held words line wrong command r said told =
-      ap (λ c. read_of wrong.files c) (same_ok (command_of words) wrong.command command wrong.said said) ∙ at_files held wrong.files (λ files. read_of files command ≡ r) wrong.told told
+    told_of : (held : Contents) (words : List (List ℕ)) (line : ℕ) (wrong : IsWrongLayout held words line) (command : Tables) (r : Result Texts ReadError) → command_of words ≡ Ok command → IfSome held (λ files. read_of files command ≡ r) → read_of wrong.files wrong.command ≡ r
+    told_of held words line wrong command r said told =
+        ap (λ c. read_of wrong.files c) (same_ok (command_of words) wrong.command command wrong.said said) ∙ at_files held wrong.files (λ files. read_of files command ≡ r) wrong.told told
 
 wrong_input : (words : List (List ℕ)) (held : Contents) (line : ℕ) (input : Input) → IsWrongLayout held words line → IsInputOf held words input → ⊥
 wrong_input words held line input wrong read =
@@ -129,7 +129,7 @@ wrong_input words held line input wrong read =
 not_read : (words : List (List ℕ)) (held : Contents) (line : ℕ) (error : ReadError) (command : Tables) → IsWrongLayout held words line → command_of words ≡ Ok command → IfSome held (λ files. read_of files command ≡ Err error) → ⊥
 not_read words held line error command wrong said told =
     not_both (read_of wrong.files wrong.command) wrong.texts error wrong.read
-      (ap (λ c. read_of wrong.files c) (same_ok (command_of words) wrong.command command wrong.said said) ∙ at_files held wrong.files (λ files. read_of files command ≡ Err error) wrong.told told)
+    (ap (λ c. read_of wrong.files c) (same_ok (command_of words) wrong.command command wrong.said said) ∙ at_files held wrong.files (λ files. read_of files command ≡ Err error) wrong.told told)
 
 same_line : {T : Type 0} (r : Result T ℕ) (a b : ℕ) → r ≡ Err a → r ≡ Err b → a ≡ b
 same_line r a b is_a is_b = cc
