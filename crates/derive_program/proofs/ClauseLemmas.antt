@@ -9,7 +9,7 @@ use Rattle.program_text.specs.Command.{Tables, command_of}
 use Rattle.program_text.specs.Layout.{Said, layout_of}
 use Rattle.derive_program.specs.declared.ran.Ran.{Ran}
 use Rattle.derive_program.specs.declared.ran.Ran.TheVariants.{Done, Refused, BadWords, BadLayout, ReadFault, FileTooLong, WriteFault, NoMemory}
-use Rattle.derive_program.specs.Cause.{Reads, Writes, IsRunOf, IsGood, IsRefused, IsReported, IsDoneOrNoMemory, IfDone, IfRefused}
+use Rattle.derive_program.specs.Cause.{Reads, Writes, IsRunOf, IsGood, IsWrongLayout, IsRefused, IsReported, IsDoneOrNoMemory, IfDone, IfRefused}
 use Rattle.derive_program.specs.Input.{Input, IsInputOf, files_of}
 use Rattle.derive_program.specs.Status.{may_write}
 
@@ -111,3 +111,37 @@ complete_by words reads writes (FileTooLong place) (cause, same) good files sink
 complete_by words reads writes WriteFault (rose, never, cut) good files (inl quiet) = quiet rose
 complete_by words reads writes WriteFault (rose, never, cut) good files (inr steady) = never steady
 complete_by words reads writes NoMemory cause good files sink = tt
+
+-- the words are a command whose files are told and read, and its layout is wrong at this line
+layout_only : (words : List (List ℕ)) (held : Contents) (line : ℕ) (wrong : IsWrongLayout held words line) (command : Tables) (texts : Texts) → command_of words ≡ Ok command → IfSome held (λ files. read_of files command ≡ Ok texts) → layout_of texts.layout ≡ Err line
+layout_only words held line wrong command texts said told =
+    let texts_are = same_ok (read_of wrong.files wrong.command) texts wrong.texts (told_of held words line wrong command _ said told) wrong.read in
+    ap (λ (t : Texts). layout_of t.layout) texts_are ∙ wrong.wrong
+  where
+    told_of : (held : Contents) (words : List (List ℕ)) (line : ℕ) (wrong : IsWrongLayout held words line) (command : Tables) (r : Result Texts ReadError) → command_of words ≡ Ok command → IfSome held (λ files. read_of files command ≡ r) → read_of wrong.files wrong.command ≡ r
+    told_of held words line wrong command r said told =
+        ap (λ c. read_of wrong.files c) (same_ok (command_of words) wrong.command command wrong.said said) ∙ at_files held wrong.files (λ files. read_of files command ≡ r) wrong.told told
+
+wrong_input : (words : List (List ℕ)) (held : Contents) (line : ℕ) (input : Input) → IsWrongLayout held words line → IsInputOf held words input → ⊥
+wrong_input words held line input wrong read =
+    not_both (layout_of read.text) input.layout line read.laid (layout_only words held line wrong read.command (files_of input read.text) read.said read.read)
+
+not_read : (words : List (List ℕ)) (held : Contents) (line : ℕ) (error : ReadError) (command : Tables) → IsWrongLayout held words line → command_of words ≡ Ok command → IfSome held (λ files. read_of files command ≡ Err error) → ⊥
+not_read words held line error command wrong said told =
+    not_both (read_of wrong.files wrong.command) wrong.texts error wrong.read
+    (ap (λ c. read_of wrong.files c) (same_ok (command_of words) wrong.command command wrong.said said) ∙ at_files held wrong.files (λ files. read_of files command ≡ Err error) wrong.told told)
+
+same_line : {T : Type 0} (r : Result T ℕ) (a b : ℕ) → r ≡ Err a → r ≡ Err b → a ≡ b
+same_line r a b is_a is_b = cc
+
+pub layout_exact_by : (words : List (List ℕ)) (reads : Reads) (writes : Writes) (line : ℕ) (ran : Ran) → IsRunOf words reads writes ran → IsWrongLayout reads.held words line → (Rose reads.faults reads.faults_now → ⊥) ⊎ IsTrue reads.steady → (ran ≡ BadLayout line) ⊎ (ran ≡ NoMemory)
+layout_exact_by words reads writes line (Done tables) cause wrong files = absurd (wrong_input words reads.held line cause.reported.input wrong cause.reported.read)
+layout_exact_by words reads writes line (Refused error) (cause, same) wrong files = absurd (wrong_input words reads.held line cause.input wrong cause.read)
+layout_exact_by words reads writes line (BadWords place) (is, same) wrong files = absurd (not_both (command_of words) wrong.command place wrong.said is)
+layout_exact_by words reads writes line (BadLayout at) (cause, same) wrong files =
+    inl (ap (λ n. BadLayout n) (same_line (layout_of cause.texts.layout) at line cause.wrong (layout_only words reads.held line wrong cause.command cause.texts cause.said cause.read)))
+layout_exact_by words reads writes line (ReadFault place) (cause, same) wrong (inl quiet) = absurd (quiet cause.rose)
+layout_exact_by words reads writes line (ReadFault place) (cause, same) wrong (inr steady) = absurd (not_read words reads.held line _ cause.command wrong cause.said (cause.missing steady))
+layout_exact_by words reads writes line (FileTooLong place) (cause, same) wrong files = absurd (not_read words reads.held line _ cause.command wrong cause.said cause.longer)
+layout_exact_by words reads writes line WriteFault (rose, never, cut) wrong files = absurd (wrong_input words reads.held line cut.reported.input wrong cut.reported.read)
+layout_exact_by words reads writes line NoMemory cause wrong files = inr refl

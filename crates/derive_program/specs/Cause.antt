@@ -95,6 +95,16 @@ pub record IsGood (held : Contents) (words : List (List ℕ)) : Type 0 where
   pub laid : layout_of texts.layout ≡ Ok layout
   pub valid : (input : Input) → input.machine ≡ command.machine → input.layout ≡ layout → files_of input texts.layout ≡ texts → AreInside (length input.buffer) input.objects → HasTables input
 
+-- Good words, files that are told, held and within the limits, and a layout whose first wrong line is this one.
+pub record IsWrongLayout (held : Contents) (words : List (List ℕ)) (line : ℕ) : Type 0 where
+  pub command : Tables
+  pub said : command_of words ≡ Ok command
+  pub files : List (List ℕ × List ℕ)
+  pub told : held ≡ Some files
+  pub texts : Texts
+  pub read : read_of files command ≡ Ok texts
+  pub wrong : layout_of texts.layout ≡ Err line
+
 -- the tables are answered, or memory was wanted
 abbrev pub IsDoneOrNoMemory : Ran → Type 0
 IsDoneOrNoMemory (Done tables) = Unit {0}

@@ -13,20 +13,22 @@ const NAMES: &[u8] = b"\0.debug_info\0.debug_gnu_pubnames\0.text\0.shstrtab\0";
 const REPORT: &str =
     "units 1\nunit 0 0 12\nnames 0\noutcome none\nindex 52\n090000001c0000002c0000002c0000002c0000002c0000003400000000000000\n000000000c000000000000000000000000000000\nsframe 0\n";
 
-/// An entry of the table of section headers (System V gABI, "Sections"), for a section that begins where the bytes so far end.
-fn push_header(
+/// Appends a section's bytes, and its header to the table (System V gABI, "Sections").
+fn push_section(
+    body: &mut Vec<u8>,
     table: &mut Vec<u8>,
     name: u32,
     kind: u32,
     flags: u64,
-    offset: u64,
-    size: u64,
+    bytes: &[u8],
 ) -> Result<(), Fail> {
+    let offset = (body.len() as u64).saturating_add(64);
     table.extend_from_slice(&name.to_le_bytes())?;
     table.extend_from_slice(&kind.to_le_bytes())?;
-    for number in [flags, 0, offset, size, 0, 1, 0] {
+    for number in [flags, 0, offset, bytes.len() as u64, 0, 1, 0] {
         table.extend_from_slice(&number.to_le_bytes())?;
     }
+    body.extend_from_slice(bytes)?;
     Ok(())
 }
 
@@ -40,16 +42,10 @@ fn object(
 ) -> Result<Vec<u8>, Fail> {
     let mut body = Vec::new(alloc);
     let mut table = vec![in alloc; 0u8; 64]?;
-    for (name, section, flags, bytes) in [
-        (1, 1, 0, info),
-        (13, 1, 0, names),
-        (33, 1, 6, [0u8; 16].as_slice()),
-        (39, 3, 0, NAMES),
-    ] {
-        let offset = (body.len() as u64).saturating_add(64);
-        push_header(&mut table, name, section, flags, offset, bytes.len() as u64)?;
-        body.extend_from_slice(bytes)?;
-    }
+    push_section(&mut body, &mut table, 1, 1, 0, info)?;
+    push_section(&mut body, &mut table, 13, 1, 0, names)?;
+    push_section(&mut body, &mut table, 33, 1, 6, &[0; 16])?;
+    push_section(&mut body, &mut table, 39, 3, 0, NAMES)?;
     let mut object = b"\x7fELF\x02\x01\x01\0\0\0\0\0\0\0\0\0".to_vec(alloc)?;
     object.extend_from_slice(&kind.to_le_bytes())?;
     object.extend_from_slice(&machine.to_le_bytes())?;

@@ -1,5 +1,5 @@
 use Rattle.std.proofs.Common.{◌≡◌, inl, inr}
-use Rattle.derive_program.proofs.ClauseLemmas.{cause_at, bad_words, unwritten_by, done_by, refused_by, complete_by}
+use Rattle.derive_program.proofs.ClauseLemmas.{cause_at, bad_words, unwritten_by, done_by, refused_by, complete_by, layout_exact_by}
 use Rattle.derive_program.proofs.steps.run.Goals as goal
 
 pub returns-clause-words : goal.returns-clause-words
@@ -37,3 +37,6 @@ returns-clause-complete g c = λ good quiet silent. complete_by _ _ _ _ c.answer
 
 pub returns-clause-complete_steady : goal.returns-clause-complete_steady
 returns-clause-complete_steady g c = λ good files sink. complete_by _ _ _ _ c.answer.ensures.cause good (inr files) (inr sink)
+
+pub returns-clause-layout_exact : goal.returns-clause-layout_exact
+returns-clause-layout_exact g c = λ line wrong files. layout_exact_by _ _ _ line _ c.answer.ensures.cause wrong files
