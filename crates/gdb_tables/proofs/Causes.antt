@@ -1,9 +1,8 @@
 -- Where an object holds units and sets, and none of its sections is compressed, no refusal has a cause but want
 -- of memory.
-use Rattle.std.proofs.Common.{◌≡◌, ℕ, List, [], ◌∷◌, ◌++◌, Option, Some, None, Result, Ok, Err, IfErr, refl, sym, ap, subst, ◌∙◌, Bor}
+use Rattle.std.proofs.Common.{◌≡◌, ℕ, List, [], ◌∷◌, ◌++◌, Option, Some, None, Result, Ok, Err, IfErr, sym, subst, ◌∙◌, Bor}
 use Rattle.std.specs.Prelude.{option_copied}
 use Rattle.std.specs.Result.{result_ok}
-use Rattle.elf_format.specs.declared.error.ElfError.{ElfError}
 use Rattle.elf_format.specs.declared.error.ElfError.TheVariants.{SectionData}
 use Rattle.elf_format.specs.Class.{Class}
 use Rattle.elf_format.specs.Section.{section_bytes}
@@ -11,12 +10,12 @@ use Rattle.gdb_index_format.specs.declared.unit.CuBoundary.{CuBoundary}
 use Rattle.gdb_index_format.specs.Units.{IsUnitList}
 use Rattle.gdb_index_format.specs.Names.{NameSet, IsSetList}
 use Rattle.gdb_index_format.specs.Published.{Object}
-use Rattle.gdb_index_format.specs.Objects.{info_bytes, names_sections, first_compressed, AreUnitsIn, AreSetsIn, AreSetsOfSections, AreSetsBeside, IsUnitsOf, IsObjectOf}
+use Rattle.gdb_index_format.specs.Objects.{info_bytes, first_compressed, AreSetsIn, AreSetsOfSections, AreSetsBeside, IsUnitsOf, IsObjectOf}
 use Rattle.gdb_index_format.proofs.UnitLists.{no_list}
 use Rattle.gdb_index_format.proofs.ObjectLists.{one_units}
 use Rattle.gdb_tables.specs.declared.error.GdbError.{GdbError}
 use Rattle.gdb_tables.specs.declared.error.GdbError.TheVariants.{BadElf, CompressedSection, BadUnit, BadPubnames, TooManyUnits, IndexTooLarge, NoMemory}
-use Rattle.gdb_tables.specs.Cause.{IsUnitCause, IsSetsCause, IsSectionCause, leaves, no_sets, FirstBadSection, FailsInNames, IsScanCause, compressed, in_units, in_names, no_memory, IsOnlyMemory}
+use Rattle.gdb_tables.specs.Cause.{IsUnitCause, IsSetsCause, IsSectionCause, leaves, no_sets, FailsInNames, IsScanCause, compressed, in_units, in_names, no_memory, IsOnlyMemory}
 
 pub holds_of : {X : Type 0} (P : GdbError → Type 0) (r : Result X GdbError) (e : GdbError) → r ≡ Err e → P e → IfErr r P
 holds_of P (Ok x) e is h = absurd (cc is)

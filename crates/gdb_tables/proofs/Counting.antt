@@ -1,7 +1,6 @@
 -- The counts of a merge are those of what the objects hold.
-use Rattle.std.proofs.Common.{◌≡◌, ◌≢◌, ℕ, zero, suc, ◌+◌, ◌*◌, ◌^◌, ◌<◌, ◌≤◌, Bool, true, false, List, [], ◌∷◌, ◌++◌, length, get_or, map, Option, Some, None, refl, sym, ap, subst, ◌∙◌, arith, inl, inr}
-use Rattle.std.specs.Prelude.{sum}
-use Rattle.std.specs.List.{All, sum_by, flat_map}
+use Rattle.std.proofs.Common.{◌≡◌, ℕ, suc, ◌+◌, ◌≤◌, false, List, [], ◌∷◌, ◌++◌, length, get_or, map, Option, Some, None, refl, sym, ap, subst, ◌∙◌, arith, inl, inr}
+use Rattle.std.specs.List.{All, sum_by}
 use Rattle.std.specs.Str.{bytes_eq}
 use Rattle.std.proofs.lemmas.Bool.{cases_Bool}
 use Rattle.std.proofs.lemmas.List.{length-map}
@@ -11,9 +10,9 @@ use Rattle.gdb_index.specs.Scan.{word_count}
 use Rattle.gdb_index.specs.Pool.{names_len, name_len}
 use Rattle.gdb_index_format.specs.declared.unit.CuBoundary.{CuBoundary}
 use Rattle.gdb_index_format.specs.Named.{Named, ListsPublished}
-use Rattle.gdb_index_format.specs.Published.{Object, Pair, firsts, first_names, words_in_order, units_in_objects}
+use Rattle.gdb_index_format.specs.Published.{Object, Pair, firsts, first_names, units_in_objects}
 use Rattle.gdb_tables.specs.Groups.{names_of, values_of}
-use Rattle.gdb_tables.specs.Scan.{ObjectScan, units_in_scan, unit_counts, units_in_scans, IsScanOf, AreScansOf}
+use Rattle.gdb_tables.specs.Scan.{ObjectScan, unit_counts, units_in_scans, AreScansOf}
 use Rattle.gdb_tables.proofs.Grouping.{Name, others, others-same, others-kept, same_from, eq_same, differ-sym, Lacks, Differ, Differ-firsts, Lacks-from_firsts, value-same, value-other, values_absent}
 use Rattle.gdb_tables.proofs.Pairing.{others-lacks}
 use Rattle.gdb_tables.proofs.Publishing.{as_pair, as_pairs}

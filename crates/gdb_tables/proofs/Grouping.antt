@@ -1,6 +1,6 @@
 -- Names with their values, in the order of first publication.
-use Rattle.std.proofs.Common.{◌≡◌, ◌≢◌, ℕ, zero, suc, ◌+◌, ◌<◌, Bool, true, false, cond, not, nat_eq, List, [], ◌∷◌, ◌++◌, length, map, slice_get, position, Option, Some, None, is_some, refl, sym, ap, ◌∙◌, subst, arith, Vec, Global, Bor, true≢false, append_assoc, inl, inr}
-use Rattle.std.specs.List.{filter, flat_map, position_or_len}
+use Rattle.std.proofs.Common.{◌≡◌, ◌≢◌, ℕ, zero, suc, ◌+◌, Bool, true, false, cond, not, List, [], ◌∷◌, ◌++◌, map, slice_get, Some, None, is_some, refl, sym, ap, ◌∙◌, subst, arith, Vec, Global, Bor, true≢false, append_assoc, inl, inr}
+use Rattle.std.specs.List.{filter, position_or_len}
 use Rattle.std.specs.Str.{bytes_eq}
 use Rattle.std.specs.Map.{keys_of, values_of as values_in, lookup}
 use Rattle.std.proofs.lemmas.Bool.{cases_Bool, cond-true, cond-false, false_from_ne_true}

@@ -1,17 +1,14 @@
 -- The size of the index of all objects.
 use Rattle.std.proofs.Common.{◌≡◌, ℕ, ◌+◌, ◌*◌, ◌^◌, ◌<◌, ◌≤◌, true, cond, eqb, List, [], ◌∷◌, length, map, Option, Some, None, refl, sym, ap, subst, ◌∙◌, arith}
-use Rattle.std.specs.List.{sum_by}
 use Rattle.std.proofs.lemmas.Bool.{cond-true, eq-eqb}
-use Rattle.std.proofs.lemmas.List.{length-map}
 use Rattle.elf_format.specs.Class.{Class}
-use Rattle.elf_view.specs.Parsed.{Parsed}
 use Rattle.gdb_index.specs.Scan.{Scan}
 use Rattle.gdb_index.specs.Size as index
 use Rattle.gdb_index.specs.declared.size.IndexCounts.{IndexCounts}
 use Rattle.gdb_index.specs.declared.size.IndexTooLarge.{IndexTooLarge as TooLarge}
 use Rattle.gdb_index_format.specs.declared.placement.Placement.{Placement}
 use Rattle.gdb_index_format.specs.Named.{ListsPublished}
-use Rattle.gdb_index_format.specs.Published.{Object, units_of_all, units_in_objects, one_behind_another, published, first_names}
+use Rattle.gdb_index_format.specs.Published.{Object, units_of_all, one_behind_another, published}
 use Rattle.gdb_index_format.specs.Objects.{AreObjectsOf}
 use Rattle.gdb_index_format.specs.Placed.{placed}
 use Rattle.gdb_index_format.specs.Size.{Counts, IsSize, counts_of, size_with}
@@ -22,7 +19,7 @@ use Rattle.gdb_tables.specs.Files as files_spec
 use Rattle.gdb_tables.specs.Files.{ScansObjects, IsFilesCause}
 use Rattle.gdb_tables.specs.Merged.{IsMergeOf, IsMergeCause}
 use Rattle.gdb_tables.specs.Scan.{ObjectScan, AreScansOf, unit_total, units_in_scans}
-use Rattle.gdb_tables.specs.Sized.{IsScanOfAll, SizesIndex, IsSizeCause, in_object, too_many, too_large, no_memory}
+use Rattle.gdb_tables.specs.Sized.{SizesIndex, IsSizeCause, in_object, too_many, too_large, no_memory}
 use Rattle.gdb_tables.proofs.Merging.{unit_number_of}
 use Rattle.gdb_tables.proofs.Counting.{words_counted, bytes_counted, names_counted, words_small, bytes_small, names_small, units_of_scans, counts_of_scans, as_many}
 

@@ -1,16 +1,16 @@
 -- Names with sorted words are those that are published.
-use Rattle.std.proofs.Common.{◌≡◌, ◌≢◌, ◌⊎◌, Option, ℕ, zero, suc, ◌+◌, ◌^◌, ◌<◌, ◌≤◌, Bool, true, false, List, [], ◌∷◌, ◌++◌, length, get_or, map, refl, sym, ap, ◌∙◌, subst, arith, inl, inr}
+use Rattle.std.proofs.Common.{◌≡◌, ◌≢◌, ◌⊎◌, Option, ℕ, zero, suc, ◌<◌, Bool, true, false, List, [], ◌∷◌, length, get_or, map, refl, sym, ap, ◌∙◌, subst, arith, inl, inr}
 use Rattle.std.specs.List.{All, filter}
-use Rattle.std.specs.List.Sorted.{IsPermutation, IsNonDecreasing}
+use Rattle.std.specs.List.Sorted.{IsPermutation}
 use Rattle.std.specs.Str.{bytes_eq}
 use Rattle.std.proofs.lemmas.Bool.{cases_Bool, cond-true, cond-false}
 use Rattle.std.proofs.lemmas.List.Sorted.{length_permutation}
 use Rattle.gdb_index_format.specs.Published.{Object, Pair, published, words_in_order, IsWordsOf, firsts}
-use Rattle.gdb_index_format.specs.Named.{Named, AreDistinct, IsNamed, AreNamesOf, ListsPublished}
+use Rattle.gdb_index_format.specs.Named.{Named, AreDistinct, IsNamed, ListsPublished}
 use Rattle.gdb_tables.specs.Groups.{names_of, values_of, groups}
 use Rattle.gdb_tables.specs.Scan.{ObjectScan, words_from, pair_in, published_in_scans, AreScansOf}
 use Rattle.gdb_tables.specs.Merged.{AreSorted}
-use Rattle.gdb_tables.proofs.Grouping.{Name, same_from, eq_same, differ-sym, Lacks, Differ, Differ-firsts, Lacks-from_firsts, value-same, value-other, tabled}
+use Rattle.gdb_tables.proofs.Grouping.{Name, same_from, eq_same, Lacks, Differ, Differ-firsts, Lacks-from_firsts, value-same, value-other, tabled}
 use Rattle.gdb_tables.proofs.Pairing.{groups_alike, HaveSome, HaveSome-firsts}
 use Rattle.gdb_tables.proofs.Publishing.{as_pair, as_pairs, scans_published}
 

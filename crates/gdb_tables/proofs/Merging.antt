@@ -1,16 +1,16 @@
 -- Loops that merge, step by step.
-use Rattle.std.proofs.Common.{◌≡◌, ◌≢◌, ℕ, zero, suc, ◌+◌, ◌*◌, ◌^◌, ◌%◌, ◌<◌, ◌≤◌, List, [], ◌∷◌, ◌++◌, length, get_or, drop, take, map, Option, Some, None, refl, sym, ap, subst, ◌∙◌, arith, append_assoc}
+use Rattle.std.proofs.Common.{◌≡◌, ◌≢◌, ℕ, zero, suc, ◌+◌, ◌^◌, ◌<◌, ◌≤◌, List, [], ◌∷◌, ◌++◌, length, get_or, drop, take, map, Option, refl, sym, ap, subst, ◌∙◌, arith, append_assoc}
 use Rattle.std.specs.Prelude.{sum}
-use Rattle.std.specs.List.{All, AllByRecursion, flat_map}
+use Rattle.std.specs.List.{All, AllByRecursion}
 use Rattle.std.specs.List.Sorted.{IsPermutation, IsNonDecreasing}
 use Rattle.std.proofs.lemmas.List.{drop_more, drop_all, length-append}
 use Rattle.gdb_index_format.specs.Hash.{word_of}
 use Rattle.gdb_tables.proofs.Listing.{lists_of_scans}
 use Rattle.std.proofs.lemmas.List.Sums.{sum_by-cons}
 use Rattle.std.proofs.lemmas.List.Sorted.{All-permutation}
-use Rattle.gdb_index.specs.Scan.{Scan, IsIndexName, IsSound, unit_number}
+use Rattle.gdb_index.specs.Scan.{IsIndexName, IsSound, unit_number}
 use Rattle.gdb_index_format.specs.declared.unit.CuBoundary.{CuBoundary}
-use Rattle.gdb_index_format.specs.Named.{Named, AreDistinct, ListsPublished}
+use Rattle.gdb_index_format.specs.Named.{Named}
 use Rattle.gdb_index_format.specs.Published.{one_behind_another, firsts}
 use Rattle.gdb_index_format.specs.Units.{total_length}
 use Rattle.gdb_tables.specs.declared.mark.Mark.{Mark}
@@ -18,7 +18,7 @@ use Rattle.gdb_tables.specs.declared.mark.NameMarks.{NameMarks}
 use Rattle.gdb_tables.specs.Groups.{names_of, values_of, groups, add_all, add_list}
 use Rattle.gdb_tables.specs.Marks.{group_of, groups_in}
 use Rattle.gdb_tables.specs.Merged.{AreSorted, HaveSmallWords}
-use Rattle.gdb_tables.specs.Scan.{ObjectScan, IsObjectName, HasSoundNames, units_in_scan, names_in_scan, placed_in_scan, unit_counts, unit_total, units_in_scans, placed_total, mark_word, words_at, words_of_groups, words_from, published_in_scans}
+use Rattle.gdb_tables.specs.Scan.{ObjectScan, IsObjectName, HasSoundNames, units_in_scan, names_in_scan, placed_in_scan, unit_counts, unit_total, units_in_scans, placed_total, mark_word, words_at, words_of_groups, words_from}
 use Rattle.gdb_tables.proofs.Grouping.{Name, add_all-append, add_all-is_list, tabled}
 use Rattle.gdb_tables.proofs.Pairing.{HaveSome, HaveSome-firsts}
 use Rattle.gdb_tables.proofs.Sounding.{each_from_All, All-from_each, each-append, each-firsts, each-values}

@@ -1,6 +1,6 @@
 -- What the scans of objects publish is what the objects publish.
 use Rattle.std.proofs.Common.{◌≡◌, ℕ, ◌+◌, List, [], ◌∷◌, ◌++◌, length, map, Option, Some, None, refl, sym, ap, ◌∙◌, subst}
-use Rattle.std.specs.List.{flat_map, position}
+use Rattle.std.specs.List.{flat_map}
 use Rattle.std.proofs.lemmas.List.{map-append}
 use Rattle.gdb_index_format.specs.declared.unit.CuBoundary.{CuBoundary}
 use Rattle.gdb_index_format.specs.Hash.{word_of}

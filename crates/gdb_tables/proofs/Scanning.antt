@@ -1,18 +1,18 @@
 -- The scans of all objects, one by one.
-use Rattle.std.proofs.Common.{◌≡◌, ℕ, zero, suc, ◌+◌, ◌-◌, ◌*◌, ◌^◌, ◌<◌, ◌≤◌, Bool, true, false, cond, eqb, ltb, ◌&&◌, List, [], ◌∷◌, ◌++◌, length, take, get_or, map, Option, Some, None, refl, sym, ap, subst, ◌∙◌, arith}
-use Rattle.std.specs.Prelude.{slice_get, sum}
-use Rattle.std.specs.List.{All, AllByRecursion, filter}
-use Rattle.std.proofs.lemmas.Bool.{eqb-true, eqb-false, eq-eqb, false_from_ne_true, cases_lt}
-use Rattle.std.proofs.lemmas.List.{append-nil, length-append}
+use Rattle.std.proofs.Common.{◌≡◌, ℕ, zero, suc, ◌+◌, ◌*◌, ◌^◌, ◌<◌, ◌≤◌, Bool, true, false, cond, eqb, ◌&&◌, List, [], ◌∷◌, ◌++◌, length, take, get_or, map, Option, Some, None, refl, sym, ap, subst, ◌∙◌, arith}
+use Rattle.std.specs.Prelude.{slice_get}
+use Rattle.std.specs.List.{filter}
+use Rattle.std.proofs.lemmas.Bool.{eqb-true, eq-eqb, false_from_ne_true}
+use Rattle.std.proofs.lemmas.List.{length-append}
 use Rattle.gdb_tables.proofs.Weighing.{objects_weight, weight_push, object_weight, published_weight}
-use Rattle.std.proofs.lemmas.List.Sums.{sum_by-append, sum_by-cons}
+use Rattle.std.proofs.lemmas.List.Sums.{sum_by-cons}
 use Rattle.elf_format.specs.Class.{Class}
 use Rattle.elf_format.specs.Section.{sections}
 use Rattle.elf_view.specs.Parsed.{Parsed}
 use Rattle.gdb_index_format.specs.declared.placement.Placement.{Placement}
 use Rattle.gdb_index_format.specs.Published.{Object}
 use Rattle.gdb_index_format.specs.Objects.{IsObjectOf, AreObjectsOf, first_compressed}
-use Rattle.gdb_index_format.specs.Placed.{has_unit, is_code, counts_in, placed}
+use Rattle.gdb_index_format.specs.Placed.{has_unit, counts_in, placed}
 use Rattle.gdb_tables.specs.declared.error.GdbError.{GdbError}
 use Rattle.gdb_tables.specs.Cause.{IsScanCause}
 use Rattle.gdb_tables.specs.PlacedIn.{NameSections, of_object, is_counted, placed_in}

@@ -1,9 +1,9 @@
 -- What a scan of an object keeps.
-use Rattle.std.proofs.Common.{◌≡◌, ◌≢◌, ℕ, zero, suc, ◌+◌, ◌*◌, ◌^◌, ◌<◌, ◌≤◌, Bool, true, false, cond, eqb, leb, List, [], ◌∷◌, ◌++◌, length, take, drop, get_or, map, Option, Some, None, refl, sym, ap, subst, ◌∙◌, arith, inl, inr}
+use Rattle.std.proofs.Common.{◌≡◌, ◌≢◌, ℕ, zero, suc, ◌+◌, ◌*◌, ◌^◌, ◌<◌, ◌≤◌, Bool, true, false, cond, eqb, List, [], ◌∷◌, ◌++◌, length, take, drop, get_or, Option, Some, None, refl, sym, ap, subst, ◌∙◌, arith, inl, inr}
 use Rattle.std.specs.Prelude.{slice_get, option_and_then}
-use Rattle.std.specs.List.{All, AllByRecursion, AllPairs, flat_map, filter, position}
+use Rattle.std.specs.List.{All, AllByRecursion, AllPairs, filter}
 use Rattle.std.specs.Str.{bytes_eq}
-use Rattle.std.proofs.lemmas.Bool.{cases_Bool, cases_lt, eqb-true}
+use Rattle.std.proofs.lemmas.Bool.{cases_Bool, eqb-true}
 use Rattle.std.proofs.lemmas.List.{length-take, length-drop}
 use Rattle.std.proofs.lemmas.List.Quantifiers.{position-Some}
 use Rattle.std.proofs.lemmas.List.Sums.{sum_by-cons}
@@ -12,17 +12,17 @@ use Rattle.elf_format.specs.Bytes.{get}
 use Rattle.elf_format.specs.Section.{sections, section_bytes}
 use Rattle.gdb_index_format.specs.declared.unit.CuBoundary.{CuBoundary}
 use Rattle.gdb_index_format.specs.declared.placement.Placement.{Placement}
-use Rattle.gdb_index_format.specs.Units.{unit_length, total_length, IsUnitFront}
+use Rattle.gdb_index_format.specs.Units.{total_length}
 use Rattle.gdb_index_format.specs.Names.{Entry, NameSet}
-use Rattle.gdb_index_format.specs.Objects.{info_section, info_bytes, bytes_of_section, first_compressed, AreSetsBeside, IsSetsOf, IsUnitsOf}
+use Rattle.gdb_index_format.specs.Objects.{info_section, bytes_of_section, first_compressed, AreSetsBeside, IsSetsOf, IsUnitsOf}
 use Rattle.gdb_index_format.specs.Placed.{has_unit}
 use Rattle.gdb_index_format.specs.Published.{firsts}
 use Rattle.gdb_index_format.proofs.UnitLists.{Tiles, Tiles-from_front, four_at_least}
 use Rattle.gdb_sections.specs.Clean.{IsClean}
 use Rattle.gdb_sections.specs.UnitSearch.{Ascend, unit_at}
 use Rattle.gdb_tables.specs.declared.mark.Mark.{Mark}
-use Rattle.gdb_tables.specs.Groups.{names_of, values_of, groups, add_all}
-use Rattle.gdb_tables.specs.Marks.{mark_of, marks_at, marks_in, marks_of}
+use Rattle.gdb_tables.specs.Groups.{names_of, values_of, groups}
+use Rattle.gdb_tables.specs.Marks.{marks_at, marks_in, marks_of}
 use Rattle.gdb_tables.specs.Scan.{ObjectScan, IsObjectName, IsSoundScan}
 use Rattle.gdb_tables.specs.PlacedIn.{IsBefore, ArePlacements, NameSections, of_object, is_counted, placed_in}
 use Rattle.gdb_tables.specs.Gathered.{GathersNames}

@@ -1,17 +1,16 @@
 -- How many bytes the published names have, by the bytes of the files.
 use Rattle.std.proofs.Common.{◌≡◌, ℕ, zero, suc, ◌+◌, ◌*◌, ◌^◌, ◌<◌, ◌≤◌, List, [], ◌∷◌, ◌++◌, length, map, Option, Some, None, refl, sym, ap, subst, ◌∙◌, arith}
 use Rattle.std.specs.Int.{w16, to_le_bytes}
-use Rattle.std.specs.List.{sum_by, flat_map, position, enumerate_from, filter}
+use Rattle.std.specs.List.{sum_by, flat_map, position, enumerate_from}
 use Rattle.std.proofs.lemmas.List.{length-append}
 use Rattle.std.proofs.lemmas.List.Sums.{sum_by-append, sum_by-cons}
 use Rattle.elf_format.specs.Class.{Class}
-use Rattle.elf_format.specs.Section.{sections, section_bytes}
+use Rattle.elf_format.specs.Section.{sections}
 use Rattle.gdb_index_format.specs.declared.dwarf_format.DwarfFormat.{DwarfFormat}
 use Rattle.gdb_index_format.specs.declared.unit.CuBoundary.{CuBoundary}
-use Rattle.gdb_index_format.specs.Names.{Entry, NameSet, width, number, initial_length, IsEntry, IsEntries, IsSet, IsSetList}
+use Rattle.gdb_index_format.specs.Names.{Entry, NameSet, width, number, initial_length, IsEntries, IsSet, IsSetList}
 use Rattle.gdb_index_format.specs.Objects.{is_names_section, names_sections, AreSetsOfSections, AreSetsBeside, IsObjectOf}
-use Rattle.gdb_index_format.specs.Published.{Object, Pair, pairs_at, pairs_of, published_from, published}
-use Rattle.gdb_index_format.proofs.SetLists.{length-number}
+use Rattle.gdb_index_format.specs.Published.{Object, Pair, pairs_at, pairs_of, published_from}
 use Rattle.gdb_tables.specs.Scan.{ObjectScan, IsScanOf}
 use Rattle.gdb_tables.specs.Scanned.{HasRoom}
 use Rattle.gdb_tables.proofs.Sounding.{section_short, filter_le}

@@ -1,12 +1,10 @@
 -- Why an object is not scanned, and why objects are not gathered. Want of memory needs no cause.
-use Rattle.std.specs.Prelude.{◌≡◌, ℕ, ◌^◌, ◌<◌, ◌≤◌, List, [], ◌∷◌, ◌++◌, length, map, Option, Some, None}
-use Rattle.elf_format.specs.declared.error.ElfError.{ElfError}
+use Rattle.std.specs.Prelude.{◌≡◌, ℕ, List, ◌∷◌, ◌++◌, Some, None}
 use Rattle.elf_format.specs.declared.error.ElfError.TheVariants.{SectionData}
 use Rattle.elf_format.specs.declared.index.SectionIndex.{SectionIndex}
 use Rattle.elf_format.specs.Class.{Class}
 use Rattle.elf_format.specs.Section.{section_bytes}
 use Rattle.gdb_index_format.specs.declared.unit.CuBoundary.{CuBoundary}
-use Rattle.gdb_index_format.specs.declared.unit.UnitFault.{UnitFault}
 use Rattle.gdb_index_format.specs.declared.unit.UnitFault.TheVariants as faults
 use Rattle.gdb_index_format.specs.Units.{FailsAt}
 use Rattle.gdb_index_format.specs.Names.{NameSet, IsSetList}

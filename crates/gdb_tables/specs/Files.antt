@@ -1,5 +1,5 @@
 -- What the scans of all objects say of their bytes.
-use Rattle.std.specs.Prelude.{◌≡◌, ℕ, ◌+◌, ◌*◌, ◌^◌, ◌<◌, ◌≤◌, cond, List, [], ◌∷◌, length, map, take, slice_get, Option, Some, None}
+use Rattle.std.specs.Prelude.{◌≡◌, ℕ, ◌+◌, ◌*◌, ◌^◌, ◌<◌, ◌≤◌, List, length, map, take, slice_get, Option, Some, None}
 use Rattle.std.specs.List.{All, AllByRecursion, sum_by}
 use Rattle.elf_format.specs.Class.{Class}
 use Rattle.elf_format.specs.Section.{sections}
@@ -7,11 +7,11 @@ use Rattle.elf_view.specs.Parsed.{Parsed}
 use Rattle.gdb_index_format.specs.declared.placement.Placement.{Placement}
 use Rattle.gdb_index_format.specs.Published.{Object, published}
 use Rattle.gdb_index_format.specs.Objects.{AreObjectsOf, first_compressed}
-use Rattle.gdb_index_format.specs.Placed.{has_unit, placed}
+use Rattle.gdb_index_format.specs.Placed.{placed}
 use Rattle.gdb_tables.specs.declared.error.GdbError.{GdbError}
 use Rattle.gdb_tables.specs.declared.error.GdbError.TheVariants.{NoMemory}
 use Rattle.gdb_tables.specs.Cause.{IsScanCause}
-use Rattle.gdb_tables.specs.PlacedIn.{ArePlacements, placed_in}
+use Rattle.gdb_tables.specs.PlacedIn.{ArePlacements}
 use Rattle.gdb_tables.specs.Scan.{ObjectScan, AreScansOf, placed_total}
 
 abbrev pub bytes_of : List Parsed → List (List ℕ)

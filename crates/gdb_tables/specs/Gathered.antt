@@ -1,5 +1,5 @@
 -- The names that the sections of an object publish, as they are gathered.
-use Rattle.std.specs.Prelude.{◌≡◌, ℕ, List, [], Option, Some, None}
+use Rattle.std.specs.Prelude.{◌≡◌, ℕ, List, []}
 use Rattle.std.specs.List.{All}
 use Rattle.elf_format.specs.Class.{Class}
 use Rattle.gdb_index_format.specs.declared.unit.CuBoundary.{CuBoundary}

@@ -13,6 +13,8 @@ mod object_scan;
 mod placed;
 mod scan;
 mod sizing;
+#[cfg(test)]
+mod tests;
 
 pub use error::GdbError;
 pub use files::scan_objects;

@@ -1,4 +1,4 @@
-use Rattle.std.proofs.Common.{◌≡◌, ◌+◌, ◌*◌, ◌≤◌, ◌++◌, [], drop, length, map, take, ◌^◌}
+use Rattle.std.proofs.Common.{◌≡◌, ◌+◌, ◌*◌, ◌≤◌, drop, ◌^◌}
 use Rattle.gdb_tables.specs.Scan.{placed_total}
 use Rattle.gdb_tables.proofs.merge.count_placed.Given as goal
 

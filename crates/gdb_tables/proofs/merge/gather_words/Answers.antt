@@ -1,8 +1,6 @@
-use Rattle.std.proofs.Common.{◌≡◌, ℕ, ◌+◌, [], length, drop, take, sym, ap, subst, ◌∙◌, arith}
-use Rattle.std.specs.List.{AllByRecursion}
-use Rattle.std.proofs.lemmas.Grind.{common_steps}
+use Rattle.std.proofs.Common.{◌≡◌, ◌+◌, [], length, drop, sym, ap, subst, ◌∙◌, arith}
 use Rattle.gdb_tables.specs.Groups.{shown, add_all}
-use Rattle.gdb_tables.specs.Scan.{units_in_scan, words_from, HasSoundNames}
+use Rattle.gdb_tables.specs.Scan.{units_in_scan, words_from}
 use Rattle.gdb_tables.proofs.Grouping.{groups-add_all}
 use Rattle.gdb_tables.proofs.Merging.{count_step, scan_step, scans_end, sound_step, sound_end}
 use Rattle.gdb_tables.proofs.merge.gather_words.Goals as goal

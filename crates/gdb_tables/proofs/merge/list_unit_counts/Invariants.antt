@@ -1,4 +1,4 @@
-use Rattle.std.proofs.Common.{◌≡◌, ◌+◌, ◌*◌, ◌≤◌, ◌++◌, [], drop, length, map, take, ◌^◌}
+use Rattle.std.proofs.Common.{◌≡◌, ◌++◌, drop}
 use Rattle.gdb_tables.specs.Scan.{unit_counts}
 use Rattle.gdb_tables.proofs.merge.list_unit_counts.Given as goal
 

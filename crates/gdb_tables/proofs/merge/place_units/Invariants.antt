@@ -1,4 +1,4 @@
-use Rattle.std.proofs.Common.{◌≡◌, ◌+◌, ◌*◌, ◌≤◌, ◌++◌, [], drop, length, map, take, ◌^◌}
+use Rattle.std.proofs.Common.{◌≡◌, ◌+◌, ◌++◌, drop}
 use Rattle.gdb_index_format.specs.Published.{one_behind_another}
 use Rattle.gdb_index_format.specs.Units.{total_length}
 use Rattle.gdb_tables.proofs.merge.place_units.Given as goal

@@ -1,4 +1,4 @@
-use Rattle.std.proofs.Common.{◌≡◌, ℕ, ◌+◌, ◌++◌, drop, sym, ap, ◌∙◌, arith}
+use Rattle.std.proofs.Common.{ℕ, ◌+◌, ◌++◌, drop, ap, ◌∙◌, arith}
 use Rattle.gdb_index_format.specs.Published.{one_behind_another}
 use Rattle.gdb_index_format.specs.Units.{total_length}
 use Rattle.gdb_tables.specs.Scan.{units_in_scan, units_in_scans}

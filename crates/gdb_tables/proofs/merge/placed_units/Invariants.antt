@@ -1,4 +1,4 @@
-use Rattle.std.proofs.Common.{◌≡◌, ◌+◌, ◌*◌, ◌≤◌, ◌++◌, [], drop, length, map, take, ◌^◌}
+use Rattle.std.proofs.Common.{◌≡◌, ◌*◌, ◌≤◌, ◌++◌, drop, ◌^◌}
 use Rattle.gdb_index_format.specs.Published.{one_behind_another}
 use Rattle.gdb_tables.specs.Scan.{units_in_scans}
 use Rattle.gdb_tables.proofs.merge.placed_units.Given as goal

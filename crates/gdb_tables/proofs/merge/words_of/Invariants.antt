@@ -1,4 +1,4 @@
-use Rattle.std.proofs.Common.{◌≡◌, ◌+◌, ◌*◌, ◌≤◌, ◌++◌, [], drop, length, map, take, ◌^◌}
+use Rattle.std.proofs.Common.{◌≡◌, ◌++◌, drop, map}
 use Rattle.gdb_tables.specs.Scan.{mark_word}
 use Rattle.gdb_tables.proofs.merge.words_of.Given as goal
 

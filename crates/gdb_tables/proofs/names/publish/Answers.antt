@@ -1,4 +1,4 @@
-use Rattle.std.proofs.Common.{◌≡◌, ◌∙◌, ◌++◌, [], ◌∷◌, ap, sym}
+use Rattle.std.proofs.Common.{◌∙◌, ◌++◌, [], ◌∷◌, ap, sym}
 use Rattle.gdb_tables.specs.Groups.{shown}
 use Rattle.gdb_tables.proofs.Grouping.{shown-insert, shown-set, place_of, add_list-one}
 use Rattle.gdb_tables.proofs.names.publish.Goals as goal

@@ -1,4 +1,4 @@
-use Rattle.std.proofs.Common.{◌≡◌, ◌∙◌, ◌++◌, ap, sym, refl}
+use Rattle.std.proofs.Common.{◌∙◌, ◌++◌, ap, sym, refl}
 use Rattle.gdb_tables.specs.Groups.{shown}
 use Rattle.gdb_tables.proofs.Grouping.{shown-insert, shown-set, place_of}
 use Rattle.gdb_tables.proofs.names.publish_list.Goals as goal

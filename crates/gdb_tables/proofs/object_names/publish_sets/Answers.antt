@@ -1,6 +1,5 @@
-use Rattle.std.proofs.Common.{◌≡◌, ◌∙◌, arith}
 use Rattle.gdb_tables.specs.Groups.{shown}
-use Rattle.gdb_tables.proofs.Marking.{set_step, sets_end}
+use Rattle.gdb_tables.proofs.Marking.{set_step}
 use Rattle.gdb_tables.proofs.object_names.publish_sets.Goals as goal
 
 pub loop-set-preserved : goal.loop-set-preserved

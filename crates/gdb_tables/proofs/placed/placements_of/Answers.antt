@@ -1,4 +1,4 @@
-use Rattle.std.proofs.Common.{◌≡◌, ltb, leb, arith, rules}
+use Rattle.std.proofs.Common.{ltb, leb, rules}
 use Rattle.std.proofs.lemmas.List.Sorted.{IsPartitionPoint-from_clause, IsPartitionedBy-leb, IsPartitionedBy-ltb}
 use Rattle.gdb_tables.proofs.Windows.{Bounds, bounds, objects_do_not_fall, start_le_end, window_of}
 use Rattle.gdb_tables.proofs.placed.placements_of.Goals as goal

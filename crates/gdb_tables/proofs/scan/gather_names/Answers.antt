@@ -1,9 +1,8 @@
-use Rattle.std.proofs.Common.{◌≡◌, ℕ, true, false, List, [], ◌∷◌, ◌++◌, Some, None, Err, ap, sym, ◌∙◌, arith}
-use Rattle.std.proofs.lemmas.Grind.{common_steps}
+use Rattle.std.proofs.Common.{◌≡◌, ℕ, true, false, List, [], ◌∷◌, ◌++◌, Err, ap, sym, ◌∙◌, arith}
 use Rattle.std.proofs.lemmas.Result.{err_from_is_err_and}
 use Rattle.elf_format.specs.Section.{sections}
 use Rattle.gdb_tables.specs.Groups.{shown}
-use Rattle.gdb_tables.specs.Cause.{IsNamesCause, leaves, no_sets}
+use Rattle.gdb_tables.specs.Cause.{IsNamesCause, no_sets}
 use Rattle.gdb_tables.proofs.SectionSearch.{next_step, stands, one_more_done}
 use Rattle.gdb_tables.proofs.Causes.{holds_of, no_bytes, bad_elf}
 use Rattle.gdb_tables.proofs.Gathering.{gathers_other, gathers_more, first_bad}

@@ -1,4 +1,4 @@
-use Rattle.std.proofs.Common.{◌≡◌, ℕ, ◌<◌, ◌≤◌, List, length, Some, None, Err, ap, sym, subst, ◌∙◌, arith, option_map}
+use Rattle.std.proofs.Common.{◌≡◌, ◌<◌, ◌≤◌, length, None, Err, ap, sym, subst, ◌∙◌, arith, option_map}
 use Rattle.std.specs.List.{filter}
 use Rattle.std.proofs.lemmas.Grind.{common_steps}
 use Rattle.std.proofs.lemmas.Result.{err_from_is_err_and}
