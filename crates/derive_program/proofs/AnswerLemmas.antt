@@ -1,5 +1,5 @@
 -- From what the tables and the writing came to, to the answer.
-use Rattle.std.proofs.Common.{◌≡◌, ◌≢◌, ℕ, ◌++◌, Bool, List, take, Option, option_map, Result, Ok, Err, IsTrue, refl, sym, ap, subst, ◌∙◌}
+use Rattle.std.proofs.Common.{◌≡◌, ◌≢◌, ℕ, ◌++◌, Bool, List, take, Option, option_map, Result, Ok, Err, IsTrue, refl, sym, ap, subst, ◌∙◌, ◌⊎◌, inl, inr}
 use Rattle.elf_format.specs.declared.architecture.Architecture.{Architecture}
 use Rattle.elf_format.specs.declared.index.Span.{Span}
 use Rattle.gdb_index_format.specs.declared.placement.Placement.{Placement}
@@ -49,8 +49,8 @@ report_named units names index index' sframe sframe' outcome outcome' i s o =
     ∙ ap (λ x. report_of units names outcome index' x) (sym s)
     ∙ ap (λ x. report_of units names x index' sframe') (sym o)
 
-pub after_writing : (machine : Architecture) (read : FilesRead) (layout : Said) (units : List CuBoundary) (names : List NameWords) (index sframe : List ℕ) (outcome : SframeOutcome) (steady : Bool) (faults faults_now : ℕ) (written now : Option (List ℕ)) (ran : Ran) → layout_of read.layout.items ≡ Ok layout → AreTablesOf (input_of machine read layout) units names index sframe outcome → IsWritingOf units names index sframe outcome steady faults faults_now written now ran → IsAnswerFor machine read steady faults faults_now written now ran
-after_writing machine read layout units names index sframe outcome steady faults faults_now written now (Done tables) laid are (i, s, o, whole) = record {
+pub after_writing : (machine : Architecture) (read : FilesRead) (layout : Said) (units : List CuBoundary) (names : List NameWords) (index sframe : List ℕ) (outcome : SframeOutcome) (steady : Bool) (faults faults_now : ℕ) (written now : Option (List ℕ)) (ran : Ran) → layout_of read.layout.items ≡ Ok layout → AreTablesOf (input_of machine read layout) units names index sframe outcome → ((error : DeriveError) → HasCauseIn (input_of machine read layout) error → error ≢ errors.NoMemory → ⊥) → IsWritingOf units names index sframe outcome steady faults faults_now written now ran → IsAnswerFor machine read steady faults faults_now written now ran
+after_writing machine read layout units names index sframe outcome steady faults faults_now written now (Done tables) laid are none (i, s, o, whole) = record {
   text = report_of units names outcome index sframe;
   reported = record {
     layout = layout;
@@ -58,11 +58,12 @@ after_writing machine read layout units names index sframe outcome steady faults
     units = units;
     names = names;
     tables = tables_named (input_of machine read layout) units names _ _ _ _ _ _ i s o are;
+    no_cause = none;
     report = report_named units names _ _ _ _ _ _ i s o;
   };
   whole = whole;
 }
-after_writing machine read layout units names index sframe outcome steady faults faults_now written now WriteFault laid are (rose, never, (n, front)) = (
+after_writing machine read layout units names index sframe outcome steady faults faults_now written now WriteFault laid are none (rose, never, (n, front)) = (
   rose,
   never,
   record {
@@ -70,33 +71,34 @@ after_writing machine read layout units names index sframe outcome steady faults
     sframe = sframe;
     outcome = outcome;
     text = report_of units names outcome index sframe;
-    reported = record { layout = layout; laid = laid; units = units; names = names; tables = are; report = refl };
+    reported = record { layout = layout; laid = laid; units = units; names = names; tables = are; no_cause = none; report = refl };
     count = n;
     front = front;
   },
 )
-after_writing machine read layout units names index sframe outcome steady faults faults_now written now NoMemory laid are same = same
-after_writing machine read layout units names index sframe outcome steady faults faults_now written now (Refused error) laid are never = absurd never
-after_writing machine read layout units names index sframe outcome steady faults faults_now written now (BadWords place) laid are never = absurd never
-after_writing machine read layout units names index sframe outcome steady faults faults_now written now (BadLayout line) laid are never = absurd never
-after_writing machine read layout units names index sframe outcome steady faults faults_now written now (ReadFault place) laid are never = absurd never
-after_writing machine read layout units names index sframe outcome steady faults faults_now written now (FileTooLong place) laid are never = absurd never
+after_writing machine read layout units names index sframe outcome steady faults faults_now written now NoMemory laid are none same = same
+after_writing machine read layout units names index sframe outcome steady faults faults_now written now (Refused error) laid are none never = absurd never
+after_writing machine read layout units names index sframe outcome steady faults faults_now written now (BadWords place) laid are none never = absurd never
+after_writing machine read layout units names index sframe outcome steady faults faults_now written now (BadLayout line) laid are none never = absurd never
+after_writing machine read layout units names index sframe outcome steady faults faults_now written now (ReadFault place) laid are none never = absurd never
+after_writing machine read layout units names index sframe outcome steady faults faults_now written now (FileTooLong place) laid are none never = absurd never
 
-pub after_refusal : (machine : Architecture) (read : FilesRead) (layout : Said) (error : DeriveError) (steady : Bool) (faults faults_now : ℕ) (written now : Option (List ℕ)) (ran : Ran) → layout_of read.layout.items ≡ Ok layout → HasCauseIn (input_of machine read layout) error → (HasTables (input_of machine read layout) → error ≡ errors.NoMemory) → now ≡ written → IsRefusalOf error ran → IsAnswerFor machine read steady faults faults_now written now ran
-after_refusal machine read layout error steady faults faults_now written now (Refused answered) laid cause complete same (is, not_memory) = (
+pub after_refusal : (machine : Architecture) (read : FilesRead) (layout : Said) (error : DeriveError) (steady : Bool) (faults faults_now : ℕ) (written now : Option (List ℕ)) (ran : Ran) → layout_of read.layout.items ≡ Ok layout → HasCauseIn (input_of machine read layout) error → (HasTables (input_of machine read layout) → error ≡ errors.NoMemory) → ((other : DeriveError) → HasCauseIn (input_of machine read layout) other → other ≢ errors.NoMemory → (error ≡ other) ⊎ (error ≡ errors.NoMemory)) → now ≡ written → IsRefusalOf error ran → IsAnswerFor machine read steady faults faults_now written now ran
+after_refusal machine read layout error steady faults faults_now written now (Refused answered) laid cause complete exact same (is, not_memory) = (
   record {
     layout = layout;
     laid = laid;
     cause = let P : DeriveError → Type 0 = λ e. HasCauseIn (input_of machine read layout) e in subst P (sym is) cause;
     not_memory = λ e. not_memory (sym is ∙ e);
+    only = λ other has some. elim (exact other has some) [ inl e ↦ sym e ∙ sym is | inr e ↦ absurd (not_memory e) ];
     no_tables = λ has. not_memory (complete has);
   },
   same,
 )
-after_refusal machine read layout error steady faults faults_now written now NoMemory laid cause complete same is = same
-after_refusal machine read layout error steady faults faults_now written now (Done tables) laid cause complete same never = absurd never
-after_refusal machine read layout error steady faults faults_now written now WriteFault laid cause complete same never = absurd never
-after_refusal machine read layout error steady faults faults_now written now (BadWords place) laid cause complete same never = absurd never
-after_refusal machine read layout error steady faults faults_now written now (BadLayout line) laid cause complete same never = absurd never
-after_refusal machine read layout error steady faults faults_now written now (ReadFault place) laid cause complete same never = absurd never
-after_refusal machine read layout error steady faults faults_now written now (FileTooLong place) laid cause complete same never = absurd never
+after_refusal machine read layout error steady faults faults_now written now NoMemory laid cause complete exact same is = same
+after_refusal machine read layout error steady faults faults_now written now (Done tables) laid cause complete exact same never = absurd never
+after_refusal machine read layout error steady faults faults_now written now WriteFault laid cause complete exact same never = absurd never
+after_refusal machine read layout error steady faults faults_now written now (BadWords place) laid cause complete exact same never = absurd never
+after_refusal machine read layout error steady faults faults_now written now (BadLayout line) laid cause complete exact same never = absurd never
+after_refusal machine read layout error steady faults faults_now written now (ReadFault place) laid cause complete exact same never = absurd never
+after_refusal machine read layout error steady faults faults_now written now (FileTooLong place) laid cause complete exact same never = absurd never

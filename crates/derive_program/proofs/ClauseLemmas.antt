@@ -1,5 +1,7 @@
 -- The clauses of a run, each from the cause of its answer.
-use Rattle.std.proofs.Common.{◌≡◌, ℕ, ◌⊎◌, Bool, true, false, List, Option, Some, None, IfSome, Result, Ok, Err, IsTrue, refl, sym, ap, subst, ◌∙◌, inl, inr}
+use Rattle.std.proofs.Common.{◌≡◌, ℕ, ◌⊎◌, length, Bool, true, false, List, Option, Some, None, IfSome, Result, Ok, Err, IsTrue, refl, sym, ap, subst, ◌∙◌, inl, inr}
+use Rattle.elf_format.specs.Span.{AreInside}
+use Rattle.sframe_format.specs.declared.fault.SframeOutcome.{SframeOutcome}
 use Rattle.derivation.specs.declared.error.DeriveError.{DeriveError}
 use Rattle.program_files.specs.declared.error.ReadError.{ReadError}
 use Rattle.program_files.specs.Reading.{Texts, read_of}
@@ -9,7 +11,7 @@ use Rattle.program_text.specs.Command.{Tables, command_of}
 use Rattle.program_text.specs.Layout.{Said, layout_of}
 use Rattle.derive_program.specs.declared.ran.Ran.{Ran}
 use Rattle.derive_program.specs.declared.ran.Ran.TheVariants.{Done, Refused, BadWords, BadLayout, ReadFault, FileTooLong, WriteFault, NoMemory}
-use Rattle.derive_program.specs.Cause.{Reads, Writes, IsRunOf, IsGood, IsWrongLayout, IsRefused, IsReported, IsDoneOrNoMemory, IfDone, IfRefused}
+use Rattle.derive_program.specs.Cause.{Reads, Writes, IsRunOf, IsReadable, IsInputFrom, IsGood, IsFaulty, IsBadLayout, IsWrongLayout, HasReport, IsRefused, IsReported, IsDoneOrNoMemory, IfDone, IfRefused}
 use Rattle.derive_program.specs.Input.{Input, IsInputOf, files_of}
 use Rattle.derive_program.specs.Status.{may_write}
 
@@ -81,36 +83,61 @@ at_files : (held : Contents) (files : List (List ℕ × List ℕ)) (P : List (Li
 at_files held files P told fact = let Q : Contents → Type 0 = λ h. IfSome h P in subst Q told fact
 
 -- what is told of a command's files, for the command that the words are
-read_as : (held : Contents) (words : List (List ℕ)) (good : IsGood held words) (command : Tables) (r : Result Texts ReadError) → command_of words ≡ Ok command → IfSome held (λ files. read_of files command ≡ r) → read_of good.files good.command ≡ r
+read_as : (held : Contents) (words : List (List ℕ)) (good : IsReadable held words) (command : Tables) (r : Result Texts ReadError) → command_of words ≡ Ok command → IfSome held (λ files. read_of files command ≡ r) → read_of good.files good.command ≡ r
 read_as held words good command r said told =
     ap (λ c. read_of good.files c) (same_ok (command_of words) good.command command good.said said) ∙ at_files held good.files (λ files. read_of files command ≡ r) good.told told
 
-no_refusal : (held : Contents) (words : List (List ℕ)) (error : DeriveError) → IsGood held words → IsRefused held words error → ⊥
-no_refusal held words error good refused =
-    let input = refused.input in
-    let text = refused.read.text in
-    let command_is = same_ok (command_of words) refused.read.command good.command refused.read.said good.said in
-    let texts_are : files_of input text ≡ good.texts = same_ok (read_of good.files good.command) (files_of input text) good.texts (read_as held words good refused.read.command _ refused.read.said refused.read.read) good.read in
-    let text_is : text ≡ good.texts.layout = ap (λ (t : Texts). t.layout) texts_are in
-    let layout_is : input.layout ≡ good.layout = same_ok (layout_of good.texts.layout) input.layout good.layout (ap layout_of (sym text_is) ∙ refused.read.laid) good.laid in
-    refused.no_tables
-    (good.valid input (refused.read.machine ∙ ap (λ (c : Tables). c.machine) command_is) layout_is (ap (λ t. files_of input t) (sym text_is) ∙ texts_are) refused.inside)
+-- the input of the words is one of what was read
+input_from : (held : Contents) (words : List (List ℕ)) (good : IsReadable held words) (input : Input) → IsInputOf held words input → AreInside (length input.buffer) input.objects → IsInputFrom held words good input
+input_from held words good input read inside =
+    let command_is = same_ok (command_of words) read.command good.command read.said good.said in
+    let texts_are : files_of input read.text ≡ good.texts = same_ok (read_of good.files good.command) (files_of input read.text) good.texts (read_as held words good read.command _ read.said read.read) good.read in
+    let text_is : read.text ≡ good.texts.layout = ap (λ (t : Texts). t.layout) texts_are in
+    record {
+      machine = read.machine ∙ ap (λ (c : Tables). c.machine) command_is;
+      layout = same_ok (layout_of good.texts.layout) input.layout good.layout (ap layout_of (sym text_is) ∙ read.laid) good.laid;
+      files = ap (λ t. files_of input t) (sym text_is) ∙ texts_are;
+      inside = inside;
+    }
+
+-- what is read has no other answer of the steps before the tables
+no_line : (held : Contents) (words : List (List ℕ)) (line : ℕ) → IsReadable held words → IsBadLayout held words line → ⊥
+no_line held words line good cause =
+    let texts_are = same_ok (read_of good.files good.command) cause.texts good.texts (read_as held words good cause.command _ cause.said cause.read) good.read in
+    not_both (layout_of good.texts.layout) good.layout line good.laid (ap (λ (t : Texts). layout_of t.layout) (sym texts_are) ∙ cause.wrong)
+
+all_read : (held : Contents) (words : List (List ℕ)) (error : ReadError) (command : Tables) → IsReadable held words → command_of words ≡ Ok command → IfSome held (λ files. read_of files command ≡ Err error) → ⊥
+all_read held words error command good said told = not_both (read_of good.files good.command) good.texts error good.read (read_as held words good command _ said told)
 
 pub complete_by : (words : List (List ℕ)) (reads : Reads) (writes : Writes) (ran : Ran) → IsRunOf words reads writes ran → IsGood reads.held words → (Rose reads.faults reads.faults_now → ⊥) ⊎ IsTrue reads.steady → (Rose writes.faults writes.faults_now → ⊥) ⊎ IsTrue writes.steady → IsDoneOrNoMemory ran
 complete_by words reads writes (Done tables) cause good files sink = tt
-complete_by words reads writes (Refused error) (cause, same) good files sink = no_refusal reads.held words error good cause
-complete_by words reads writes (BadWords place) (wrong, same) good files sink = not_both (command_of words) good.command place good.said wrong
-complete_by words reads writes (BadLayout line) (cause, same) good files sink =
-    let texts_are = same_ok (read_of good.files good.command) cause.texts good.texts (read_as reads.held words good cause.command _ cause.said cause.read) good.read in
-    not_both (layout_of good.texts.layout) good.layout line good.laid (ap (λ (t : Texts). layout_of t.layout) (sym texts_are) ∙ cause.wrong)
+complete_by words reads writes (Refused error) (cause, same) good files sink = cause.no_tables (good.valid cause.input (input_from reads.held words good.readable cause.input cause.read cause.inside))
+complete_by words reads writes (BadWords place) (wrong, same) good files sink = not_both (command_of words) good.readable.command place good.readable.said wrong
+complete_by words reads writes (BadLayout line) (cause, same) good files sink = no_line reads.held words line good.readable cause
 complete_by words reads writes (ReadFault place) (cause, same) good (inl quiet) sink = quiet cause.rose
-complete_by words reads writes (ReadFault place) (cause, same) good (inr steady) sink =
-    not_both (read_of good.files good.command) good.texts _ good.read (read_as reads.held words good cause.command _ cause.said (cause.missing steady))
-complete_by words reads writes (FileTooLong place) (cause, same) good files sink =
-    not_both (read_of good.files good.command) good.texts _ good.read (read_as reads.held words good cause.command _ cause.said cause.longer)
+complete_by words reads writes (ReadFault place) (cause, same) good (inr steady) sink = all_read reads.held words _ cause.command good.readable cause.said (cause.missing steady)
+complete_by words reads writes (FileTooLong place) (cause, same) good files sink = all_read reads.held words _ cause.command good.readable cause.said cause.longer
 complete_by words reads writes WriteFault (rose, never, cut) good files (inl quiet) = quiet rose
 complete_by words reads writes WriteFault (rose, never, cut) good files (inr steady) = never steady
 complete_by words reads writes NoMemory cause good files sink = tt
+
+-- what is refused has no report
+no_report : (held : Contents) (words : List (List ℕ)) (error : DeriveError) (index sframe text : List ℕ) (outcome : SframeOutcome) → IsFaulty held words error → HasReport held words index sframe outcome text → ⊥
+no_report held words error index sframe text outcome bad reported =
+    reported.no_cause error (bad.cause reported.input (input_from held words bad.readable reported.input reported.read reported.tables.has.valid.inside)) bad.not_memory
+
+pub refused_exact_by : (words : List (List ℕ)) (reads : Reads) (writes : Writes) (error : DeriveError) (ran : Ran) → IsRunOf words reads writes ran → IsFaulty reads.held words error → (Rose reads.faults reads.faults_now → ⊥) ⊎ IsTrue reads.steady → (ran ≡ Refused error) ⊎ (ran ≡ NoMemory)
+refused_exact_by words reads writes error (Done tables) cause bad files = absurd (no_report reads.held words error _ _ _ _ bad cause.reported)
+refused_exact_by words reads writes error (Refused told) (cause, same) bad files =
+    let is : error ≡ told = cause.only error (bad.cause cause.input (input_from reads.held words bad.readable cause.input cause.read cause.inside)) bad.not_memory in
+    inl (ap (λ e. Refused e) (sym is))
+refused_exact_by words reads writes error (BadWords place) (wrong, same) bad files = absurd (not_both (command_of words) bad.readable.command place bad.readable.said wrong)
+refused_exact_by words reads writes error (BadLayout line) (cause, same) bad files = absurd (no_line reads.held words line bad.readable cause)
+refused_exact_by words reads writes error (ReadFault place) (cause, same) bad (inl quiet) = absurd (quiet cause.rose)
+refused_exact_by words reads writes error (ReadFault place) (cause, same) bad (inr steady) = absurd (all_read reads.held words _ cause.command bad.readable cause.said (cause.missing steady))
+refused_exact_by words reads writes error (FileTooLong place) (cause, same) bad files = absurd (all_read reads.held words _ cause.command bad.readable cause.said cause.longer)
+refused_exact_by words reads writes error WriteFault (rose, never, cut) bad files = absurd (no_report reads.held words error _ _ _ _ bad cut.reported)
+refused_exact_by words reads writes error NoMemory cause bad files = inr refl
 
 -- the words are a command whose files are told and read, and its layout is wrong at this line
 layout_only : (words : List (List ℕ)) (held : Contents) (line : ℕ) (wrong : IsWrongLayout held words line) (command : Tables) (texts : Texts) → command_of words ≡ Ok command → IfSome held (λ files. read_of files command ≡ Ok texts) → layout_of texts.layout ≡ Err line

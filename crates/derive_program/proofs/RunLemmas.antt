@@ -48,6 +48,7 @@ report_of_words held words command read index sframe text outcome said told repo
   units = reported.units;
   names = reported.names;
   tables = reported.tables;
+  no_cause = reported.no_cause;
   report = reported.report;
 }
 
@@ -65,6 +66,7 @@ run_of_answer words reads writes command read (Refused error) said told inside (
     cause = refused.cause;
     not_span = not_span (input_of command.machine read refused.layout) error refused.cause inside;
     not_memory = refused.not_memory;
+    only = refused.only;
     no_tables = refused.no_tables;
   },
   same,

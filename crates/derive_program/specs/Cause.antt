@@ -56,6 +56,7 @@ pub record IsRefused (held : Contents) (words : List (List ℕ)) (error : Derive
   pub cause : HasCauseIn input error
   pub not_span : (place : ℕ) → error ≢ errors.BadSpan place
   pub not_memory : error ≢ errors.NoMemory
+  pub only : (other : DeriveError) → HasCauseIn input other → other ≢ errors.NoMemory → other ≡ error
   pub no_tables : HasTables input → ⊥
 
 -- the input that was read has tables, and this is the report of them
@@ -65,6 +66,7 @@ pub record HasReport (held : Contents) (words : List (List ℕ)) (index sframe :
   pub units : List CuBoundary
   pub names : List NameWords
   pub tables : AreTablesOf input units names index sframe outcome
+  pub no_cause : (error : DeriveError) → HasCauseIn input error → error ≢ errors.NoMemory → ⊥
   pub report : text ≡ report_of units names outcome index sframe
 
 -- a report was written whole
@@ -83,8 +85,8 @@ pub record IsCutOff (held : Contents) (words : List (List ℕ)) (written now : O
   pub count : ℕ
   pub front : now ≡ option_map (λ bytes. bytes ++ take count text) written
 
--- Good words, files that are told, held and within the limits, a good layout, and input that has tables however its objects stand in a buffer.
-pub record IsGood (held : Contents) (words : List (List ℕ)) : Type 0 where
+-- Good words, files that are told, held and within the limits, and a good layout.
+pub record IsReadable (held : Contents) (words : List (List ℕ)) : Type 0 where
   pub command : Tables
   pub said : command_of words ≡ Ok command
   pub files : List (List ℕ × List ℕ)
@@ -93,7 +95,24 @@ pub record IsGood (held : Contents) (words : List (List ℕ)) : Type 0 where
   pub read : read_of files command ≡ Ok texts
   pub layout : Said
   pub laid : layout_of texts.layout ≡ Ok layout
-  pub valid : (input : Input) → input.machine ≡ command.machine → input.layout ≡ layout → files_of input texts.layout ≡ texts → AreInside (length input.buffer) input.objects → HasTables input
+
+-- an input of what was read, however its objects stand in a buffer
+pub record IsInputFrom (held : Contents) (words : List (List ℕ)) (readable : IsReadable held words) (input : Input) : Type 0 where
+  pub machine : input.machine ≡ readable.command.machine
+  pub layout : input.layout ≡ readable.layout
+  pub files : files_of input readable.texts.layout ≡ readable.texts
+  pub inside : AreInside (length input.buffer) input.objects
+
+-- What is read has tables.
+pub record IsGood (held : Contents) (words : List (List ℕ)) : Type 0 where
+  pub readable : IsReadable held words
+  pub valid : (input : Input) → IsInputFrom held words readable input → HasTables input
+
+-- What is read has no tables, by the cause of this error.
+pub record IsFaulty (held : Contents) (words : List (List ℕ)) (error : DeriveError) : Type 0 where
+  pub readable : IsReadable held words
+  pub cause : (input : Input) → IsInputFrom held words readable input → HasCauseIn input error
+  pub not_memory : error ≢ errors.NoMemory
 
 -- Good words, files that are told, held and within the limits, and a layout whose first wrong line is this one.
 pub record IsWrongLayout (held : Contents) (words : List (List ℕ)) (line : ℕ) : Type 0 where

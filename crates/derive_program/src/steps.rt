@@ -1,9 +1,10 @@
 //! The steps of the program, one behind another.
 ghost use Rattle.std.specs.Prelude.{◌≡◌, ◌≤◌, ◌↔◌, ◌⊎◌, ℕ, length, vec_len, false, IsTrue};
+ghost use Rattle.derivation.specs.declared.error.DeriveError.{DeriveError as DeriveError_spec};
 ghost use Rattle.program_io.specs.Counting.{Rose};
 ghost use Rattle.program_files.specs.Reading.{file_limit};
 ghost use Rattle.program_text.specs.Command.{object_limit, words_of, command_of};
-ghost use Rattle.derive_program.specs.Cause.{IsRunOf, IsReadFault, IsTooLong, IsBadLayout, IsRefused, IsReported, IsCutOff, IsGood, IsWrongLayout, IsDoneOrNoMemory, IfDone, IfRefused};
+ghost use Rattle.derive_program.specs.Cause.{IsRunOf, IsReadFault, IsTooLong, IsBadLayout, IsRefused, IsFaulty, IsReported, IsCutOff, IsGood, IsWrongLayout, IsDoneOrNoMemory, IfDone, IfRefused};
 ghost use Rattle.derive_program.specs.Status.{may_write};
 ghost use Rattle.derive_program.specs.Answer.{IsAnswerFor, IsRefusalOf};
 ghost use Rattle.derive_program.specs.Writing.{IsWritingOf};
@@ -121,6 +122,7 @@ pub fn run<F: Files, S: Sink>(alloc: Global, words: &[String], files: &mut F, ou
     ensures layout { (line : ℕ) → result ≡ Ran.BadLayout line → IsBadLayout (F.held files.old) (words_of words.now) line }
     ensures layout_exact { (line : ℕ) → IsWrongLayout (F.held files.old) (words_of words.now) line → ¬ Rose (F.faults files.old) (F.faults files.new) ⊎ IsTrue (F.steady files.old) → (result ≡ Ran.BadLayout line) ⊎ (result ≡ Ran.NoMemory) }
     ensures refused { IfRefused result (λ error. IsRefused (F.held files.old) (words_of words.now) error) }
+    ensures refused_exact { (error : DeriveError_spec) → IsFaulty (F.held files.old) (words_of words.now) error → ¬ Rose (F.faults files.old) (F.faults files.new) ⊎ IsTrue (F.steady files.old) → (result ≡ Ran.Refused error) ⊎ (result ≡ Ran.NoMemory) }
     ensures write_fault { result ≡ Ran.WriteFault → Rose (S.faults out.old) (S.faults out.new) }
     ensures steady_sink { IsTrue (S.steady out.old) → result ≡ Ran.WriteFault → ⊥ }
 

@@ -1,5 +1,5 @@
 use Rattle.std.proofs.Common.{◌≡◌, inl, inr}
-use Rattle.derive_program.proofs.ClauseLemmas.{cause_at, bad_words, unwritten_by, done_by, refused_by, complete_by, layout_exact_by}
+use Rattle.derive_program.proofs.ClauseLemmas.{cause_at, bad_words, unwritten_by, done_by, refused_by, complete_by, layout_exact_by, refused_exact_by}
 use Rattle.derive_program.proofs.steps.run.Goals as goal
 
 pub returns-clause-words : goal.returns-clause-words
@@ -40,3 +40,6 @@ returns-clause-complete_steady g c = λ good files sink. complete_by _ _ _ _ c.a
 
 pub returns-clause-layout_exact : goal.returns-clause-layout_exact
 returns-clause-layout_exact g c = λ line wrong files. layout_exact_by _ _ _ line _ c.answer.ensures.cause wrong files
+
+pub returns-clause-refused_exact : goal.returns-clause-refused_exact
+returns-clause-refused_exact g c = λ error bad files. refused_exact_by _ _ _ error _ c.answer.ensures.cause bad files

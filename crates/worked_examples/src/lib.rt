@@ -1,0 +1,10 @@
+//! Tests that cross crates, each a table of many cases: what the program does on objects as a whole, beside
+//! plain slow readings of the formats that are the tests' own.
+#![tactic(auto)]
+
+#[cfg(test)]
+mod faults;
+#[cfg(test)]
+mod plain_rules;
+#[cfg(test)]
+mod sample;
