@@ -7,7 +7,7 @@ fn a_header_is_read_and_written(rt: HostRuntime) -> Result<(), Fail> {
         0xe2, 0xde, 2, 4, 3, 0, 0xf8, 0, 1, 0, 0, 0, 2, 0, 0, 0, 3, 0, 0, 0, 0, 0, 0, 0, 20, 0, 0,
         0,
     ];
-    let header = Header::parse(&bytes).unwrap();
+    let header = Header::parse(&bytes).expect(&rt, "a header of version 2");
     assert_eq!(rt; (header.flags, header.cfa_fixed_ra_offset), (4, -8));
     assert_eq!(rt;
         (header.num_fdes, header.num_fres, header.fre_start_offset),
