@@ -15,6 +15,7 @@ ghost use Rattle.gdb_tables.specs.PlacedIn.{ArePlacements, NameSections};
 ghost use Rattle.gdb_tables.specs.Scanned.{ScansObject};
 ghost use Rattle.gdb_tables.specs.Section.{PublishesSection};
 
+use crate::ascending::{AscendingUnits, ascending};
 use crate::error::{GdbError, of_names, of_units};
 use crate::mark::Mark;
 use crate::object_names::{listed, publish_section};
@@ -86,10 +87,9 @@ fn gather_names<'a, C: ElfClass>(
     alloc: Global,
     object: usize,
     file: &File<'a, C>,
-    units: &[CuBoundary],
+    units: AscendingUnits<'_>,
 ) -> Result<IndexMap<&'a [u8], Vec<Mark>>, GdbError>
-    requires { Ascend units.now }
-    ensures names { IfOk result (λ names. GathersNames C.class file.now.bytes units.now (shown names.entries)) }
+    ensures names { IfOk result (λ names. GathersNames C.class file.now.bytes units.entry.units.now (shown names.entries)) }
     ensures cause { IfErr result (IsNamesCause C.class object file.now.bytes) }
     ensures fit { OnOk result (40 * length (sections C.class file.now.bytes) ≤ length file.now.bytes) }
 {
@@ -99,7 +99,7 @@ fn gather_names<'a, C: ElfClass>(
             continue;
         }
         let bytes = names_data(object, file, &header)?;
-        publish_names(&mut names, alloc, units, object, index, bytes)?;
+        publish_names(&mut names, alloc, units.units, object, index, bytes)?;
     }
     Ok(names)
 }
@@ -135,7 +135,7 @@ pub fn scan_one_object<'a, C: ElfClass>(
     if units.is_empty() {
         return Ok(None);
     }
-    let names = gather_names(alloc, object, file, &units)?;
+    let names = gather_names(alloc, object, file, ascending(&units))?;
     let names = listed(alloc, names)?;
     let placed = count_placed(file, placements_of(object, placements));
     Ok(Some(PerObjectScan::new(units, names, placed)))

@@ -8,5 +8,5 @@ use Rattle.gdb_tables.proofs.scan.gather_names.Given as goal
 
 abbrev pub invariant-loop-index : goal.invariant-loop-index
 invariant-loop-index g l = record {
-  parts : (done : List (ℕ × List ℕ)) × (done ++ l.index-iterator ≡ enumerate_from 0 (sections g.C.ElfClass.class l.file.bytes)) × Gathers g.C.ElfClass.class l.file.bytes l.units (filter (λ s. is_names_section g.C.ElfClass.class l.file.bytes s.1) done) (shown l.names.entries);
+  parts : (done : List (ℕ × List ℕ)) × (done ++ l.index-iterator ≡ enumerate_from 0 (sections g.C.ElfClass.class l.file.bytes)) × Gathers g.C.ElfClass.class l.file.bytes l.units.units.now (filter (λ s. is_names_section g.C.ElfClass.class l.file.bytes s.1) done) (shown l.names.entries);
 }

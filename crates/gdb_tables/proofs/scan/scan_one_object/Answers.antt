@@ -44,8 +44,8 @@ returns-then-is_empty-clause-scan g c =
     let none : length us ≡ 0 = grind (arith, common_steps) in
     scanned_none class file object c.args.placements.now us units none plain
 
-pub gather_names-requires : goal.gather_names-requires
-gather_names-requires g c = subst Ascend (sym c.deref.ensures.value) (units_ascend g.C.ElfClass.class c.args.file.now.bytes c.in_ok-units.units.items c.in_ok-units.ensures.units)
+pub ascending-requires : goal.ascending-requires
+ascending-requires g c = subst Ascend (sym c.deref.ensures.value) (units_ascend g.C.ElfClass.class c.args.file.now.bytes c.in_ok-units.units.items c.in_ok-units.ensures.units)
 
 pub returns-in_err-names-clause-cause : goal.returns-in_err-names-clause-cause
 returns-in_err-names-clause-cause g c =
@@ -75,7 +75,7 @@ new-requires g c =
     let us = c.in_ok-units.units.items in
     let units = c.in_ok-units.ensures.units in
     let some : 0 < length us = grind (arith, common_steps) in
-    let gathered : GathersNames class file us (shown c.in_ok-names.names.entries) = subst (λ xs. GathersNames class file xs (shown c.in_ok-names.names.entries)) c.deref.ensures.value c.in_ok-names.ensures.names in
+    let gathered : GathersNames class file us (shown c.in_ok-names.names.entries) = subst (λ xs. GathersNames class file xs (shown c.in_ok-names.names.entries)) (c.ascending.ensures ∙ c.deref.ensures.value) c.in_ok-names.ensures.names in
     let named : groups_in c.in_ok-names-2.names.items ≡ shown c.in_ok-names.names.entries = ap groups_in c.in_ok-names-2.ensures ∙ listed_shows c.in_ok-names.names.entries in
     let count : c.count_placed-placed.result ≡ placed_in class file object c.args.placements.now = c.count_placed-placed.ensures ∙ ap (λ l. length (filter (is_counted class file) l)) c.placements_of.ensures in
     subst (λ gs. IsSoundScan (record { units = us; names = gs; placed = c.count_placed-placed.result })) (sym named)
@@ -90,7 +90,7 @@ returns-clause-scan g c =
     let us = c.in_ok-units.units.items in
     let units = c.in_ok-units.ensures.units in
     let some : 0 < length us = grind (arith, common_steps) in
-    let gathered : GathersNames class file us (shown c.in_ok-names.names.entries) = subst (λ xs. GathersNames class file xs (shown c.in_ok-names.names.entries)) c.deref.ensures.value c.in_ok-names.ensures.names in
+    let gathered : GathersNames class file us (shown c.in_ok-names.names.entries) = subst (λ xs. GathersNames class file xs (shown c.in_ok-names.names.entries)) (c.ascending.ensures ∙ c.deref.ensures.value) c.in_ok-names.ensures.names in
     let named : groups_in c.in_ok-names-2.names.items ≡ shown c.in_ok-names.names.entries = ap groups_in c.in_ok-names-2.ensures ∙ listed_shows c.in_ok-names.names.entries in
     let count : c.count_placed-placed.result ≡ placed_in class file object c.args.placements.now = c.count_placed-placed.ensures ∙ ap (λ l. length (filter (is_counted class file) l)) c.placements_of.ensures in
     scanned class file object c.args.placements.now us (shown c.in_ok-names.names.entries) c.count_placed-placed.result c.new.result (c.new.ensures ∙ ap (λ gs. record { units = us; names = gs; placed = c.count_placed-placed.result }) named) units some gathered plain count c.in_ok-names.ensures.fit
