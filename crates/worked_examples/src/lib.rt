@@ -7,4 +7,6 @@ mod faults;
 #[cfg(test)]
 mod plain_rules;
 #[cfg(test)]
+mod refusals;
+#[cfg(test)]
 mod sample;
