@@ -9,6 +9,10 @@ mod ran;
 mod steps;
 mod words;
 
+pub use derivation::{DeriveError, Derived, derive_tables};
+pub use program_io::{
+    DiskFiles, FileFault, Files, MemoryFiles, MemorySink, Sink, SinkFault, StreamSink,
+};
 pub use ran::{Ran, Tables};
 pub use steps::run;
 pub use words::collect_words;
