@@ -11,13 +11,10 @@ ghost use Rattle.gdb_index_format.specs.Objects as objects;
 
 use elf_format::{ElfError, SectionIndex};
 use elf_view::File;
-use elf_words::{ElfClass, SectionHeaderFields};
+use elf_words::{ElfClass, SHF_COMPRESSED, SectionHeaderFields};
 
 /// The section whose units are read: the first of its name.
 const DEBUG_INFO: &str = ".debug_info";
-
-/// The flag of a section whose bytes are compressed (gABI, Section Attribute Flags).
-const SHF_COMPRESSED: u64 = 0x800;
 
 /// Whether the section at an index holds sets of names: `.debug_gnu_pubnames` or `.debug_gnu_pubtypes`.
 pub fn is_names_section<C: ElfClass>(file: &File<'_, C>, index: SectionIndex) -> bool

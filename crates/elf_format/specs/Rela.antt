@@ -4,6 +4,16 @@ use Rattle.elf_format.specs.declared.crel.Crel.{Crel}
 use Rattle.elf_format.specs.Bytes.{get, is_whole, whole_records}
 use Rattle.elf_format.specs.Class.{Class, rela_size, r_offset, r_info, r_addend, symbol_unit, signed_word}
 
+-- section types: records with addends, records without, and the compact form
+abbrev pub sht_rela : ℕ
+sht_rela = 4
+
+abbrev pub sht_rel : ℕ
+sht_rel = 9
+
+abbrev pub sht_crel : ℕ
+sht_crel = 0x40000014
+
 -- what a record says
 unfoldable pub rela_values : Class → List ℕ → Crel
 rela_values c rela = record {

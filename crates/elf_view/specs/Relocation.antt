@@ -10,17 +10,8 @@ use Rattle.elf_format.specs.Bytes.{get}
 use Rattle.elf_format.specs.Class.{Class, sh_type, sh_link, sh_info}
 use Rattle.elf_format.specs.Section.{sections, section_bytes}
 use Rattle.elf_format.specs.Symbol.{symbol_table}
-use Rattle.elf_format.specs.Rela.{rela_list}
+use Rattle.elf_format.specs.Rela.{sht_rela, sht_rel, sht_crel, rela_list}
 use Rattle.elf_format.specs.Crel.{Listing, listing, all_ok}
-
-abbrev pub sht_rela : ℕ
-sht_rela = 4
-
-abbrev pub sht_rel : ℕ
-sht_rel = 9
-
-abbrev pub sht_crel : ℕ
-sht_crel = 0x40000014
 
 -- whether a section holds relocations about the symbols of a table
 abbrev pub relocates : Class → ℕ → List ℕ → Bool

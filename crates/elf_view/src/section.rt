@@ -4,7 +4,7 @@ ghost use Rattle.std.specs.Prelude.{◌≡◌, ◌==◌, ◌<◌, position, leng
 ghost use Rattle.elf_format.specs.Bytes;
 ghost use Rattle.elf_format.specs.Section.{section_bytes};
 
-use elf_words::{Record, SHT_NOBITS, SectionHeaderFields};
+use elf_words::{Record, SHT_NOBITS, SectionHeaderFields, first_zero};
 
 /// A section's bytes, where the file holds them: none for a section that takes no room in it.
 #[tactic(auto, unfolding(elf_format::specs::Section::section_bytes))]
@@ -17,14 +17,6 @@ pub fn bytes_of_section<'a, H: SectionHeaderFields>(bytes: &'a [u8], header: &H)
     let start = header.sh_offset() as usize;
     let stop = start.checked_add(header.sh_size() as usize)?;
     bytes.get(start..stop)
-}
-
-/// The place of the first zero byte.
-fn first_zero(bytes: &[u8]) -> Option<usize>
-    ensures value { result ≡ position (λ b. b == 0) bytes.now }
-    ensures bound { IfSome result (λ index. index < length bytes.now) }
-{
-    bytes.iter().position(|byte| *byte == 0)
 }
 
 /// The bytes from a place up to the first zero byte.

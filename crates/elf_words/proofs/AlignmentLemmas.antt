@@ -1,5 +1,5 @@
 -- The next number that leaves a given rest.
-use Rattle.std.proofs.Common.{◌≡◌, ℕ, suc, ◌+◌, ◌-◌, ◌*◌, ◌/◌, ◌%◌, ◌<◌, ◌≤◌, ◌⊎◌, inl, inr, ap, ◌∙◌, arith, mul-le-mul_right}
+use Rattle.std.proofs.Common.{◌≡◌, ℕ, suc, ◌+◌, ◌-◌, ◌*◌, ◌/◌, ◌%◌, ◌<◌, ◌≤◌, inl, inr, ap, ◌∙◌, arith, mul-le-mul_right}
 use Rattle.std.proofs.Math.Nat.{mod-add-div', mod-lt, eq-or-lt_of_le}
 use Rattle.std.proofs.lemmas.Nat.{mod-mul-add, le-div}
 

@@ -1,9 +1,8 @@
 -- The steps of reading and writing LEB128.
-use Rattle.std.proofs.Common.{◌≡◌, ℕ, zero, suc, ◌+◌, ◌-◌, ◌*◌, ◌/◌, ◌%◌, ◌^◌, ◌<◌, ◌≤◌, List, [], ◌∷◌, ◌++◌, length, take, drop, get_or, length-drop, Ok, Err, refl, ap, sym, ◌∙◌, arith, lt-ltb, le-ltb, pow-suc, add-one, append_assoc, drop-cons, length-append, lit<, mul-le-mul_right}
-use Rattle.std.proofs.Math.ListN.{set, length-set}
+use Rattle.std.proofs.Common.{◌≡◌, ℕ, suc, ◌+◌, ◌-◌, ◌*◌, ◌/◌, ◌%◌, ◌^◌, ◌<◌, ◌≤◌, List, [], ◌∷◌, ◌++◌, length, take, drop, get_or, Ok, Err, refl, ap, ◌∙◌, arith, lt-ltb, le-ltb, pow-suc, append_assoc, drop-cons, lit<, mul-le-mul_right}
+use Rattle.std.proofs.Math.ListN.{set}
 use Rattle.std.proofs.Math.Seq.{take-suc-set}
 use Rattle.std.proofs.Math.Nat.{pow-le-pow_right}
-use Rattle.std.specs.Prelude.{slice_set}
 use Rattle.elf_format.specs.declared.cursor.CursorError.TheVariants.{Short, TooLong}
 use Rattle.elf_format.specs.Leb128.{continuing, group_sum, number_bytes, groups, groups_before}
 use Rattle.elf_format.proofs.Leb128Lemmas.{continuing_last, continuing_more}

@@ -27,6 +27,7 @@ mod segment;
 mod span;
 mod sym;
 mod word;
+mod zero_byte;
 
 pub use alignment::{Alignment, BadAlignment};
 pub use bits::extract_bit_range;
@@ -59,6 +60,7 @@ pub use segment::{SegmentFlags, SegmentType};
 pub use span::first_outside;
 pub use sym::SymFields;
 pub use word::{ElfWord, Field, FieldError};
+pub use zero_byte::first_zero;
 
 #[cfg(test)]
 mod tests;

@@ -18,4 +18,3 @@ pub mod Indexes
 pub mod Rooms
 pub mod LawLemmas
 pub mod RowLemmas
-pub mod FirstZero

@@ -13,9 +13,8 @@ use crate::steps::Steps;
 use crate::table::slot_at;
 use crate::vector::CuVector;
 use crate::version::{HEADER_LEN, INDEX_VERSION};
-use elf_words::read_u32;
+use elf_words::{first_zero, read_u32};
 use gdb_index_format::BadIndex;
-use memchr::memchr;
 use std::sync::ledger::Ledger;
 
 /// Where the parts of an index are that a probe reads.
@@ -77,13 +76,6 @@ fn name_from(index: &[u8], at: usize) -> Option<&[u8]>
     let tail = &index[at..];
     let len = first_zero(tail)?;
     Some(&tail[..len])
-}
-
-/// The place of the first zero byte.
-fn first_zero(bytes: &[u8]) -> Option<usize>
-    ensures { result ≡ position (λ byte. byte == 0) bytes.now }
-{
-    memchr(0, bytes)
 }
 
 /// The vector at a place.

@@ -82,6 +82,14 @@ impl<'a> GdbIndexScanResult<'a> {
         &self.unit_counts
     }
 
+    /// The units and the names, taken out of the scan result.
+    pub fn into_parts(self) -> (Vec<CuBoundary>, Vec<NameWords<'a>>)
+        ensures units { result.0.items ≡ self.entry.units }
+        ensures names { all_named result.1.items ≡ self.entry.names }
+    {
+        (self.units, self.names)
+    }
+
     /// What the size of the index depends on.
     pub fn counts(&self) -> IndexCounts
         ensures { result ≡ counts_of self.now }

@@ -6,6 +6,7 @@ pub mod Names
 pub mod Published
 pub mod Objects
 pub mod Placed
+pub mod Addresses
 pub mod Size
 pub mod Probe
 pub mod Named

@@ -1,6 +1,6 @@
 -- The units of `.debug_info` (DWARF 5, 7.4 "32-Bit and 64-Bit DWARF Formats" and 7.5.1 "Unit Headers"),
 -- and those that an index lists (GDB manual, "Index Section Format": the CU list).
-use Rattle.std.specs.Prelude.{◌≡◌, ℕ, ◌+◌, ◌<◌, ◌≤◌, ◌==◌, ◌≢◌, ◌⊎◌, ◌||◌, not, List, [], map, length, take, nat_lt, slice_index_or, slice_range, if◌then◌else◌}
+use Rattle.std.specs.Prelude.{◌≡◌, ℕ, ◌+◌, ◌<◌, ◌≤◌, ◌==◌, ◌≢◌, ◌⊎◌, ◌||◌, ◌&&◌, Bool, Option, position, nat_le, not, List, [], map, length, take, nat_lt, slice_index_or, slice_range, if◌then◌else◌}
 use Rattle.std.specs.List.{All, sum_by}
 use Rattle.elf_format.specs.Bytes.{u32_at, u64_at, whole_records}
 use Rattle.gdb_index_format.specs.declared.unit.CuBoundary.{CuBoundary}
@@ -47,6 +47,14 @@ pub record UnitsAreOne : Type 0 where
   pub no_list : (b : List ℕ) (us : List CuBoundary) (at : ℕ) (fault : UnitFault) → IsUnitList b us → FailsAt b at fault → ⊥
   pub one_place : (b : List ℕ) (p q : ℕ) (e f : UnitFault) → FailsAt b p e → FailsAt b q f → p ≡ q
   pub one_cause : (b : List ℕ) (p q : ℕ) (e f : UnitFault) → FailsAt b p e → FailsAt b q f → e ≡ f
+
+-- whether an offset lies in a unit
+abbrev pub holds_offset : ℕ → CuBoundary → Bool
+holds_offset offset u = nat_le u.offset offset && nat_lt offset (u.offset + u.length)
+
+-- the place of the unit that holds an offset
+abbrev pub unit_holding : List CuBoundary → ℕ → Option ℕ
+unit_holding us offset = position (holds_offset offset) us
 
 -- a unit as an index lists it: its offset and its length, of eight bytes each
 abbrev pub unit_in : List ℕ → CuBoundary

@@ -13,7 +13,8 @@ use Rattle.std.proofs.lemmas.Cmp.{ranked}
 use Rattle.std.proofs.lemmas.List.Quantifiers.{position-Some}
 use Rattle.std.proofs.lemmas.List.Sums.{fails_before_first, position_or_len_is}
 use Rattle.gdb_index_format.specs.declared.unit.CuBoundary.{CuBoundary}
-use Rattle.gdb_sections.specs.UnitSearch.{Ascend, AreAdjacent, unit_at, holds_offset, unit_holding}
+use Rattle.gdb_index_format.specs.Units.{holds_offset, unit_holding}
+use Rattle.gdb_sections.specs.UnitSearch.{Ascend, AreAdjacent, unit_at}
 
 -- ---- the unit that begins at an offset
 

@@ -1,5 +1,5 @@
 -- The unit of an offset.
-use Rattle.std.specs.Prelude.{◌≡◌, ℕ, ◌+◌, ◌^◌, ◌<◌, ◌==◌, ◌&&◌, Bool, nat_le, nat_lt, List, length, Option, slice_index_or}
+use Rattle.std.specs.Prelude.{◌≡◌, ℕ, ◌+◌, ◌^◌, ◌<◌, ◌==◌, List, length, Option, slice_index_or}
 use Rattle.std.specs.List.{All, AllPairs, position}
 use Rattle.gdb_index_format.specs.declared.unit.CuBoundary.{CuBoundary}
 
@@ -15,11 +15,3 @@ pub record AreAdjacent (us : List CuBoundary) : Type 0 where
 -- the place of the unit at an offset
 abbrev pub unit_at : List CuBoundary → ℕ → Option ℕ
 unit_at us offset = position (λ u. u.offset == offset) us
-
--- whether an offset lies in a unit
-abbrev pub holds_offset : ℕ → CuBoundary → Bool
-holds_offset offset u = nat_le u.offset offset && nat_lt offset (u.offset + u.length)
-
--- the place of the unit that holds an offset
-abbrev pub unit_holding : List CuBoundary → ℕ → Option ℕ
-unit_holding us offset = position (holds_offset offset) us

@@ -7,8 +7,8 @@ ghost use Rattle.gdb_index_format.specs.Names.{Entry, IsEntries};
 ghost use Rattle.gdb_sections.specs.Entries.{entries_in, FoundEntry, NoEntry, NumberAt, SplitsName, IsBad};
 
 use crate::set_error::SetError;
+use elf_words::first_zero;
 use gdb_index_format::DwarfFormat;
-use memchr::memchr;
 use std::alloc::Global;
 
 /// An entry, and what follows it.
@@ -33,13 +33,6 @@ pub(crate) fn number_of(format: DwarfFormat, bytes: &[u8]) -> Option<(u64, &[u8]
             Some((u64::from_le_bytes(*front), rest))
         }
     }
-}
-
-/// The place of the first zero byte.
-fn first_zero(bytes: &[u8]) -> Option<usize>
-    ensures { result ≡ position (λ byte. byte == 0) bytes.now }
-{
-    memchr(0, bytes)
 }
 
 /// What stands before the first zero byte, and behind it.

@@ -1,7 +1,8 @@
 //! The unit of an offset in `.debug_info`, by halving: units are in the order of their offsets.
 
 ghost use Rattle.std.specs.Prelude.{◌≡◌, ◌+◌, ◌-◌, ◌<◌, ◌≤◌, ◌^◌, length};
-ghost use Rattle.gdb_sections.specs.UnitSearch.{Ascend, AreAdjacent, unit_at, unit_holding};
+ghost use Rattle.gdb_index_format.specs.Units.{unit_holding};
+ghost use Rattle.gdb_sections.specs.UnitSearch.{Ascend, AreAdjacent, unit_at};
 
 use gdb_index_format::CuBoundary;
 

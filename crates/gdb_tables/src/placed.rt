@@ -6,14 +6,8 @@ ghost use Rattle.std.specs.List.{AllPairs, filter};
 ghost use Rattle.gdb_tables.specs.PlacedIn.{ArePlacements, of_object, is_counted};
 
 use elf_view::File;
-use elf_words::{ElfClass, SectionHeaderFields, SectionIndex};
+use elf_words::{ElfClass, SHF_ALLOC, SHF_EXECINSTR, SectionHeaderFields, SectionIndex};
 use gdb_index_format::Placement;
-
-/// The flag of a section that takes memory in a program (gABI, Section Attribute Flags).
-const SHF_ALLOC: u64 = 2;
-
-/// The flag of a section that holds machine instructions.
-const SHF_EXECINSTR: u64 = 4;
 
 /// The placements of an object, which stand together.
 pub(crate) fn placements_of(object: usize, placements: &[Placement]) -> &[Placement]

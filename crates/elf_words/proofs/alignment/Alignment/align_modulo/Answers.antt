@@ -1,4 +1,4 @@
-use Rattle.std.proofs.Common.{◌≡◌, ◌<◌, ◌≤◌, ◌%◌, ◌+◌, ◌-◌, arith}
+use Rattle.std.proofs.Common.{◌%◌}
 use Rattle.std.proofs.Math.Nat.{mod-lt}
 use Rattle.elf_words.proofs.AlignmentLemmas.{least_here, least_next, rest_here, rest_next}
 use Rattle.elf_words.proofs.alignment.Alignment.align_modulo.Goals as goal

@@ -1,0 +1,13 @@
+//! The zero byte that ends a string (gABI, String Table).
+
+ghost use Rattle.std.specs.Prelude.{◌≡◌, ◌==◌, ◌<◌, length, position, IfSome};
+
+use memchr::memchr;
+
+/// The place of the first zero byte, if any.
+pub fn first_zero(bytes: &[u8]) -> Option<usize>
+    ensures value { result ≡ position (λ byte. byte == 0) bytes.now }
+    ensures bound { IfSome result (λ place. place < length bytes.now) }
+{
+    memchr(0, bytes)
+}
