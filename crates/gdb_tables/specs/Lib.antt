@@ -9,3 +9,4 @@ pub mod Scanned
 pub mod Merged
 pub mod Files
 pub mod Sized
+pub mod Laws

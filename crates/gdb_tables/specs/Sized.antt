@@ -34,6 +34,16 @@ pub record SizesIndex (version : ℕ) (c : Class) (files : List (List ℕ)) (ps 
   pub size_is : IsSize version (counts_of objects (length (placed c files objects ps))) size
   pub scanned : IsScanOrNone objects (length (placed c files objects ps)) scan
 
+-- Files that hold objects, whose index has a size that its offsets can count.
+pub record IsIndexable (version : ℕ) (c : Class) (files : List (List ℕ)) (ps : List Placement) : Type 0 where
+  pub objects : List Object
+  pub held : AreObjectsOf c files objects
+  pub plain : ArePlain c files
+  pub few : length (units_of_all objects) ≤ 2 ^ 24
+  pub size : ℕ
+  pub size_is : IsSize version (counts_of objects (length (placed c files objects ps))) size
+  pub fits : size < 2 ^ 32
+
 -- Why an index has no size: the first object that is not scanned, or objects that have too many units, or whose
 -- index is too large. Want of memory needs no cause.
 pub data IsSizeCause (version : ℕ) (c : Class) (files : List (List ℕ)) (ps : List Placement) : GdbError → Type 0 where

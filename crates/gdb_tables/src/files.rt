@@ -2,7 +2,10 @@
 
 ghost use Rattle.std.specs.Prelude.{◌≡◌, ℕ, ◌^◌, ◌<◌, List, length, IfOk, IfErr};
 ghost use Rattle.std.specs.List.{All};
-ghost use Rattle.gdb_tables.specs.Files.{bytes_of, ArePlacedIn, ScansObjects, IsFilesCause};
+ghost use Rattle.gdb_index_format.specs.Published.{Object};
+ghost use Rattle.gdb_index_format.specs.Objects.{AreObjectsOf};
+ghost use Rattle.gdb_tables.specs.Cause.{IsOnlyMemory};
+ghost use Rattle.gdb_tables.specs.Files.{bytes_of, ArePlain, ArePlacedIn, ScansObjects, IsFilesCause};
 
 use crate::error::GdbError;
 use crate::object_scan::PerObjectScan;
@@ -13,7 +16,7 @@ use gdb_index_format::Placement;
 use std::alloc::Global;
 
 /// The scans of all objects, in input order. It is refused for the first object that is not scanned, as
-/// `scan_one_object` refuses it.
+/// `scan_one_object` refuses it; where each can be scanned, for want of memory alone.
 ///
 /// Each file has fewer than 2^39 bytes. The placements ascend by object and section, name objects and sections
 /// that are there, and their ends fit 64 bits.
@@ -26,6 +29,7 @@ pub fn scan_objects<'a, C: ElfClass>(
     requires placements { ArePlacedIn C.class (bytes_of files.now) placements.now }
     ensures scans { IfOk result (λ scans. ScansObjects C.class (bytes_of files.now) placements.now scans.items) }
     ensures cause { IfErr result (IsFilesCause C.class (bytes_of files.now)) }
+    ensures complete { (os : List Object) → AreObjectsOf C.class (bytes_of files.now) os → ArePlain C.class (bytes_of files.now) → IfErr result IsOnlyMemory }
 {
     let mut scans = Vec::new(alloc);
     for (object, file) in files.iter().enumerate() {

@@ -6,6 +6,7 @@
 mod ascending;
 mod error;
 mod files;
+mod laws;
 mod mark;
 mod merge;
 mod names;
@@ -28,6 +29,7 @@ pub use gdb_index_format::{CuBoundary, Placement, UnitFault};
 pub use gdb_sections::{
     PubnamesSet, SetError, UnitError, cu_index_for_offset, parse_cu_boundaries, parse_pubnames_sets,
 };
+pub use laws::{indexable_has_no_cause, scan_causes_are_one, size_causes_are_one};
 pub use mark::{Mark, NameMarks};
 pub use merge::merge_gdb_index_scans;
 pub use object_scan::PerObjectScan;

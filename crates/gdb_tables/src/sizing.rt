@@ -1,9 +1,10 @@
 //! The size of the index of all objects, before it is written.
 
-ghost use Rattle.std.specs.Prelude.{◌^◌, ◌<◌, length, IfOk, IfErr};
+ghost use Rattle.std.specs.Prelude.{◌^◌, ◌<◌, length, IfOk, IfErr, OnOk};
 ghost use Rattle.std.specs.List.{All};
+ghost use Rattle.gdb_tables.specs.Cause.{IsOnlyMemory};
 ghost use Rattle.gdb_tables.specs.Files.{bytes_of, ArePlacedIn};
-ghost use Rattle.gdb_tables.specs.Sized.{SizesIndex, IsSizeCause};
+ghost use Rattle.gdb_tables.specs.Sized.{SizesIndex, IsIndexable, IsSizeCause};
 
 use crate::error::GdbError;
 use crate::files::scan_objects;
@@ -19,7 +20,8 @@ use std::alloc::Global;
 ///
 /// The refusals, in this order: those of `scan_one_object` for the first object that is at fault; `TooManyUnits`
 /// exactly where all objects together have more than 16,777,216 units; `IndexTooLarge`, with the size, exactly
-/// where it is above 4,294,967,295. `NoMemory` may come at any objects.
+/// where it is above 4,294,967,295. `NoMemory` may come at any objects, and alone at those whose index has a size
+/// of at most that.
 ///
 /// There are fewer than 2^24 files, each of fewer than 2^39 bytes. The placements ascend by object and section,
 /// name objects and sections that are there, and their ends fit 64 bits.
@@ -32,7 +34,9 @@ pub fn compute_gdb_index_size<'a, C: ElfClass>(
     requires small { All (λ file. length file.bytes < 2 ^ 39) files.now }
     requires placements { ArePlacedIn C.class (bytes_of files.now) placements.now }
     ensures size { IfOk result (λ sized. SizesIndex INDEX_VERSION C.class (bytes_of files.now) placements.now sized.0 sized.1) }
+    ensures indexable { OnOk result (IsIndexable INDEX_VERSION C.class (bytes_of files.now) placements.now) }
     ensures cause { IfErr result (IsSizeCause INDEX_VERSION C.class (bytes_of files.now) placements.now) }
+    ensures complete { IsIndexable INDEX_VERSION C.class (bytes_of files.now) placements.now → IfErr result IsOnlyMemory }
 {
     let scans = match scan_objects(alloc, files, placements) {
         Ok(scans) => scans,

@@ -5,6 +5,7 @@ use Rattle.elf_view.specs.Parsed.{Parsed}
 use Rattle.gdb_tables.specs.declared.error.GdbError.TheVariants.{NoMemory}
 use Rattle.gdb_tables.specs.Files.{bytes_of, IsFilesCause, in_object, no_memory}
 use Rattle.gdb_tables.proofs.Causes.{holds_of}
+use Rattle.gdb_tables.proofs.OneCause.{no_files_cause, only_memory_in_files}
 use Rattle.gdb_tables.proofs.Scanning.{Scanned, scanned_none, scanned_more, scans_objects, take_next, take_all_files, taken_length, file_at, first_bad_object, names_sections_of}
 use Rattle.gdb_tables.proofs.Sounding.{placed_few}
 use Rattle.gdb_tables.proofs.files.scan_objects.Goals as goal
@@ -25,6 +26,12 @@ returns-in-Err-clause-cause g c =
     let i = c.loop-object.object in
     let f = c.index-files-object.result in
     in_object c.in-Err.error (first_bad_object g.C.ElfClass.class (bytes_of c.args.files.now) c.args.placements.now c.loop-object.scans.items i f.bytes c.in-Err.error (file_at c.args.files.now i f (omega arith) c.index-files-object.is) c.loop-object.invariant.done c.in-Err.ensures.cause)
+
+pub returns-in_err-push-in-Ok-clause-complete : goal.returns-in_err-push-in-Ok-clause-complete
+returns-in_err-push-in-Ok-clause-complete g c = λ os held plain. only_memory_in_files g.C.ElfClass.class (bytes_of c.args.files.now) os c.from_residual.result held plain (returns-in_err-push-in-Ok-clause-cause g c)
+
+pub returns-in-Err-clause-complete : goal.returns-in-Err-clause-complete
+returns-in-Err-clause-complete g c = λ os held plain. no_files_cause g.C.ElfClass.class (bytes_of c.args.files.now) os c.in-Err.error held plain (returns-in-Err-clause-cause g c)
 
 pub loop-object-preserved : goal.loop-object-preserved
 loop-object-preserved g c =

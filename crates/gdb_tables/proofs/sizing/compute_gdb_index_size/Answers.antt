@@ -1,13 +1,18 @@
-use Rattle.std.proofs.Common.{◌≡◌, ◌^◌, ◌<◌, length, ap, sym, ◌∙◌, arith}
+use Rattle.std.proofs.Common.{◌≡◌, ◌^◌, ◌<◌, Some, None, length, ap, sym, ◌∙◌, arith}
 use Rattle.std.proofs.lemmas.Grind.{common_steps}
 use Rattle.std.proofs.lemmas.List.{length-map}
 use Rattle.elf_view.specs.Parsed.{Parsed}
+use Rattle.gdb_tables.specs.declared.error.GdbError.TheVariants.{IndexTooLarge}
 use Rattle.gdb_tables.specs.Files.{bytes_of}
 use Rattle.gdb_tables.proofs.IndexSizes.{objects_cause, scans_as_files, merge_cause, gathered, sized_none, counts_small, sized_some, sized_large}
+use Rattle.gdb_tables.proofs.OneCause.{only_size_memory, indexable}
 use Rattle.gdb_tables.proofs.sizing.compute_gdb_index_size.Goals as goal
 
 pub returns-in-Err-clause-cause : goal.returns-in-Err-clause-cause
 returns-in-Err-clause-cause g c = objects_cause _ g.C.ElfClass.class (bytes_of c.args.files.now) c.args.placements.now c.in-Err.error c.in-Err.ensures.cause
+
+pub returns-in-Err-clause-complete : goal.returns-in-Err-clause-complete
+returns-in-Err-clause-complete g c = λ index. only_size_memory _ g.C.ElfClass.class (bytes_of c.args.files.now) c.args.placements.now c.in-Err.error index (returns-in-Err-clause-cause g c)
 
 pub merge_gdb_index_scans-requires : goal.merge_gdb_index_scans-requires
 merge_gdb_index_scans-requires g c =
@@ -28,6 +33,9 @@ returns-in-Err-merge_gdb_index_scans-clause-cause g c =
     let done = c.in-Ok.ensures.scans in
     merge_cause _ class files ps ss c.in-Err-merge_gdb_index_scans.error done c.in-Err-merge_gdb_index_scans.ensures.cause
 
+pub returns-in-Err-merge_gdb_index_scans-clause-complete : goal.returns-in-Err-merge_gdb_index_scans-clause-complete
+returns-in-Err-merge_gdb_index_scans-clause-complete g c = λ index. only_size_memory _ g.C.ElfClass.class (bytes_of c.args.files.now) c.args.placements.now c.in-Err-merge_gdb_index_scans.error index (returns-in-Err-merge_gdb_index_scans-clause-cause g c)
+
 pub returns-then-is_empty-clause-size : goal.returns-then-is_empty-clause-size
 returns-then-is_empty-clause-size g c =
     let class = g.C.ElfClass.class in
@@ -39,6 +47,9 @@ returns-then-is_empty-clause-size g c =
     let all = gathered class files ps ss m done c.in-Ok-merge_gdb_index_scans.ensures.merged c.in-Ok-merge_gdb_index_scans.ensures.objects in
     let none : length c.units.result.now ≡ 0 = grind (arith, common_steps) in
     sized_none _ class files ps ss m done all (ap length (sym c.units.ensures.units) ∙ none)
+
+pub returns-then-is_empty-clause-indexable : goal.returns-then-is_empty-clause-indexable
+returns-then-is_empty-clause-indexable g c = indexable _ g.C.ElfClass.class (bytes_of c.args.files.now) c.args.placements.now 0 None (returns-then-is_empty-clause-size g c) (omega arith)
 
 pub checked_index_size-requires : goal.checked_index_size-requires
 checked_index_size-requires g c =
@@ -64,6 +75,9 @@ returns-in-Ok-checked_index_size-clause-size g c =
     let some : 0 < length c.units.result.now = grind (arith, common_steps) in
     sized_some _ class files ps ss m c.counts-counts.result c.in-Ok-checked_index_size.size done all (omega (arith, some, ap length c.units.ensures.units)) c.counts-counts.ensures (c.in-Ok-checked_index_size.ensures {u = tt})
 
+pub returns-in-Ok-checked_index_size-clause-indexable : goal.returns-in-Ok-checked_index_size-clause-indexable
+returns-in-Ok-checked_index_size-clause-indexable g c = indexable _ g.C.ElfClass.class (bytes_of c.args.files.now) c.args.placements.now c.in-Ok-checked_index_size.size (Some c.in-Ok-merge_gdb_index_scans.merged) (returns-in-Ok-checked_index_size-clause-size g c) (c.in-Ok-checked_index_size.ensures {u = tt}).below
+
 pub returns-clause-cause : goal.returns-clause-cause
 returns-clause-cause g c =
     let class = g.C.ElfClass.class in
@@ -74,3 +88,6 @@ returns-clause-cause g c =
     let m = c.in-Ok-merge_gdb_index_scans.merged in
     let all = gathered class files ps ss m done c.in-Ok-merge_gdb_index_scans.ensures.merged c.in-Ok-merge_gdb_index_scans.ensures.objects in
     sized_large _ class files ps ss m c.counts-counts.result c.in-Err-checked_index_size.field-0 done all c.counts-counts.ensures (c.in-Err-checked_index_size.ensures {u = tt})
+
+pub returns-clause-complete : goal.returns-clause-complete
+returns-clause-complete g c = λ index. only_size_memory _ g.C.ElfClass.class (bytes_of c.args.files.now) c.args.placements.now (IndexTooLarge c.in-Err-checked_index_size.field-0.0) index (returns-clause-cause g c)

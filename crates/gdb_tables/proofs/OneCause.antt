@@ -1,0 +1,247 @@
+-- What is refused is refused for one cause, and what is sound for none.
+use Rattle.std.proofs.Common.{◌≡◌, ◌≢◌, ℕ, zero, suc, ◌<◌, ◌^◌, List, [], ◌∷◌, ◌++◌, length, take, Option, Some, None, Result, Ok, Err, IfErr, refl, sym, ap, subst, ◌∙◌, arith, inl, inr}
+use Rattle.std.specs.Prelude.{slice_get}
+use Rattle.std.proofs.lemmas.Bool.{cases_lt}
+use Rattle.elf_format.specs.declared.error.ElfError.TheVariants.{SectionData}
+use Rattle.elf_format.specs.declared.index.SectionIndex.{SectionIndex}
+use Rattle.elf_format.specs.Class.{Class}
+use Rattle.elf_format.specs.Section.{section_bytes}
+use Rattle.gdb_index.specs.Scan.{Scan}
+use Rattle.gdb_index_format.specs.declared.placement.Placement.{Placement}
+use Rattle.gdb_index_format.specs.declared.unit.UnitFault.{UnitFault}
+use Rattle.gdb_index_format.specs.Units.{FailsAt}
+use Rattle.gdb_index_format.specs.Names.{NameSet}
+use Rattle.gdb_index_format.specs.Published.{Object, units_of_all}
+use Rattle.gdb_index_format.specs.Objects.{info_bytes, first_compressed, AreSetsOfSections, IsObjectOf, AreObjectsOf}
+use Rattle.gdb_index_format.specs.Placed.{placed}
+use Rattle.gdb_index_format.specs.Size.{IsSize, counts_of}
+use Rattle.gdb_index_format.proofs.UnitLists.{one_place, one_cause}
+use Rattle.gdb_index_format.proofs.ObjectLists.{objects_are_one_lem}
+use Rattle.gdb_index_format.proofs.Sizing.{sizes_are_one_lem}
+use Rattle.gdb_tables.specs.declared.error.GdbError.{GdbError}
+use Rattle.gdb_tables.specs.declared.error.GdbError.TheVariants.{BadElf, CompressedSection, BadUnit, BadPubnames, TooManyUnits, IndexTooLarge, NoMemory}
+use Rattle.gdb_tables.specs.Cause.{IsUnitCause, IsSetsCause, IsSectionCause, leaves, no_sets, FailsInNames, IsScanCause, compressed, in_units, in_names, no_memory, IsOnlyMemory}
+use Rattle.gdb_tables.specs.Files as files_spec
+use Rattle.gdb_tables.specs.Files.{ArePlain, FirstBadObject, IsFilesCause}
+use Rattle.gdb_tables.specs.Sized as sized_spec
+use Rattle.gdb_tables.specs.Sized.{SizesIndex, IsIndexable, IsSizeCause, in_object, too_many, too_large}
+use Rattle.gdb_tables.specs.Laws.{HasOneScanCause, HasOneFilesCause, HasOneSizeCause, IndexableHasNoCause}
+use Rattle.gdb_tables.proofs.Causes.{there_or_not, same_bytes, not_in_units, not_in_section, excluded}
+
+pub memory_is : (e : GdbError) → IsOnlyMemory e → e ≡ NoMemory
+memory_is (BadElf i kind) only = absurd only
+memory_is (CompressedSection i s) only = absurd only
+memory_is (BadUnit i offset fault) only = absurd only
+memory_is (BadPubnames i s) only = absurd only
+memory_is (TooManyUnits n) only = absurd only
+memory_is (IndexTooLarge n) only = absurd only
+memory_is NoMemory only = refl
+
+-- ---- the units of an object
+
+-- why the units are not read, with the error that says so
+data UnitRefusal (object : ℕ) (held : Option (List ℕ)) (e : GdbError) : Type 0 where
+  outside : held ≡ None → e ≡ BadElf object SectionData → UnitRefusal object held e
+  breaks : (bytes : List ℕ) → held ≡ Some bytes → (offset : ℕ) (fault : UnitFault) → FailsAt bytes offset fault → e ≡ BadUnit object offset fault → UnitRefusal object held e
+
+unit_refusal : (c : Class) (object : ℕ) (file : List ℕ) (e : GdbError) → IsUnitCause c object file e → e ≢ NoMemory → UnitRefusal object (info_bytes c file) e
+unit_refusal c object file (BadElf i kind) cause some = outside cause.2 (ap (λ n. BadElf n kind) cause.0 ∙ ap (λ k. BadElf object k) cause.1)
+unit_refusal c object file (CompressedSection i s) cause some = absurd cause
+unit_refusal c object file (BadUnit i offset fault) cause some = let at = cause.1 in breaks at.0 at.1 offset fault at.2 (ap (λ n. BadUnit n offset fault) cause.0)
+unit_refusal c object file (BadPubnames i s) cause some = absurd cause
+unit_refusal c object file (TooManyUnits n) cause some = absurd cause
+unit_refusal c object file (IndexTooLarge n) cause some = absurd cause
+unit_refusal c object file NoMemory cause some = absurd (some refl)
+
+same_unit_refusal : (object : ℕ) (held : Option (List ℕ)) (e f : GdbError) → UnitRefusal object held e → UnitRefusal object held f → e ≡ f
+same_unit_refusal object held e f (outside none is) (outside none' is') = is ∙ sym is'
+same_unit_refusal object held e f (outside none is) (breaks bytes there offset fault at is') = absurd (there_or_not held bytes there none)
+same_unit_refusal object held e f (breaks bytes there offset fault at is) (outside none is') = absurd (there_or_not held bytes there none)
+same_unit_refusal object held e f (breaks bytes there offset fault at is) (breaks bytes' there' offset' fault' at' is') =
+    let bytes_are : bytes' ≡ bytes = same_bytes bytes' bytes (sym there' ∙ there) in
+    let other : FailsAt bytes offset' fault' = subst (λ b. FailsAt b offset' fault') bytes_are at' in
+    is
+    ∙ ap (λ n. BadUnit object n fault) (one_place bytes offset offset' fault fault' at other)
+    ∙ ap (λ x. BadUnit object offset' x) (one_cause bytes offset offset' fault fault' at other)
+    ∙ sym is'
+
+-- ---- its sections of names
+
+-- why a section is not read, with the error that says so
+data SectionRefusal (object : ℕ) (s : ℕ) (held : Option (List ℕ)) (e : GdbError) : Type 0 where
+  away : held ≡ None → e ≡ BadElf object SectionData → SectionRefusal object s held e
+  unsound : (bytes : List ℕ) → held ≡ Some bytes → e ≡ BadPubnames object (record { 0 = s }) → SectionRefusal object s held e
+
+sets_refusal : (object : ℕ) (s : SectionIndex) (bytes : List ℕ) (e : GdbError) → IsSetsCause object s bytes e → e ≢ NoMemory → e ≡ BadPubnames object s
+sets_refusal object s bytes (BadElf i kind) cause some = absurd cause
+sets_refusal object s bytes (CompressedSection i at) cause some = absurd cause
+sets_refusal object s bytes (BadUnit i offset fault) cause some = absurd cause
+sets_refusal object s bytes (BadPubnames i at) cause some = ap (λ n. BadPubnames n at) cause.0 ∙ ap (λ x. BadPubnames object x) cause.1
+sets_refusal object s bytes (TooManyUnits n) cause some = absurd cause
+sets_refusal object s bytes (IndexTooLarge n) cause some = absurd cause
+sets_refusal object s bytes NoMemory cause some = absurd (some refl)
+
+section_refusal : (c : Class) (object : ℕ) (file : List ℕ) (s : ℕ × List ℕ) (e : GdbError) → IsSectionCause c object file s e → e ≢ NoMemory → SectionRefusal object s.0 (section_bytes c file s.1) e
+section_refusal c object file s e (leaves none) some = away none refl
+section_refusal c object file s e (no_sets bytes there f cause) some = unsound bytes there (sets_refusal object (record { 0 = s.0 }) bytes f cause some)
+
+same_section_refusal : (object s : ℕ) (held : Option (List ℕ)) (e f : GdbError) → SectionRefusal object s held e → SectionRefusal object s held f → e ≡ f
+same_section_refusal object s held e f (away none is) (away none' is') = is ∙ sym is'
+same_section_refusal object s held e f (away none is) (unsound bytes there is') = absurd (there_or_not held bytes there none)
+same_section_refusal object s held e f (unsound bytes there is) (away none is') = absurd (there_or_not held bytes there none)
+same_section_refusal object s held e f (unsound bytes there is) (unsound bytes' there' is') = is ∙ sym is'
+
+one_section_cause : (c : Class) (object : ℕ) (file : List ℕ) (s t : ℕ × List ℕ) (e f : GdbError) → s ≡ t → IsSectionCause c object file s e → IsSectionCause c object file t f → e ≢ NoMemory → f ≢ NoMemory → e ≡ f
+one_section_cause c object file s t e f same left right a b =
+    same_section_refusal object t.0 (section_bytes c file t.1) e f (section_refusal c object file t e (subst (λ (x : ℕ × List ℕ). IsSectionCause c object file x e) same left) a) (section_refusal c object file t f right b)
+
+head_is : (x y : ℕ × List ℕ) (xs ys : List (ℕ × List ℕ)) → x ∷ xs ≡ y ∷ ys → x ≡ y
+head_is x y xs ys e = cc e
+
+tail_is : (x y : ℕ × List ℕ) (xs ys : List (ℕ × List ℕ)) → x ∷ xs ≡ y ∷ ys → xs ≡ ys
+tail_is x y xs ys e = cc e
+
+-- a section that is read has no cause
+sound_section : (c : Class) (object : ℕ) (file : List ℕ) (s t : ℕ × List ℕ) (more : List (ℕ × List ℕ)) (ss : List NameSet) (e : GdbError) → s ≡ t → IsSectionCause c object file s e → AreSetsOfSections c file (t ∷ more) ss → e ≡ NoMemory
+sound_section c object file s t more ss e same cause (front, rest, is, here, others) =
+    memory_is e (not_in_section c object file t e front here (subst (λ (x : ℕ × List ℕ). IsSectionCause c object file x e) same cause))
+
+one_bad_section : (c : Class) (object : ℕ) (file : List ℕ) (before before' after after' : List (ℕ × List ℕ)) (s t : ℕ × List ℕ) (ss ts : List NameSet) (e f : GdbError) → before ++ s ∷ after ≡ before' ++ t ∷ after' → AreSetsOfSections c file before ss → AreSetsOfSections c file before' ts → IsSectionCause c object file s e → IsSectionCause c object file t f → e ≢ NoMemory → f ≢ NoMemory → e ≡ f
+one_bad_section c object file [] [] after after' s t ss ts e f same p q left right a b = one_section_cause c object file s t e f (head_is s t after after' same) left right a b
+one_bad_section c object file [] (y ∷ before') after after' s t ss ts e f same p q left right a b =
+    absurd (a (sound_section c object file s y before' ts e (head_is s y after (before' ++ t ∷ after') same) left q))
+one_bad_section c object file (x ∷ before) [] after after' s t ss ts e f same p q left right a b =
+    absurd (b (sound_section c object file t x before ss f (sym (head_is x t (before ++ s ∷ after) after' same)) right p))
+one_bad_section c object file (x ∷ before) (y ∷ before') after after' s t ss ts e f same (front, rest, is, here, others) (front', rest', is', here', others') left right a b =
+    one_bad_section c object file before before' after after' s t rest rest' e f (tail_is x y (before ++ s ∷ after) (before' ++ t ∷ after') same) others others' left right a b
+
+one_names_cause : (c : Class) (object : ℕ) (file : List ℕ) (e f : GdbError) → FailsInNames c object file e → FailsInNames c object file f → e ≢ NoMemory → f ≢ NoMemory → e ≡ f
+one_names_cause c object file e f p q a b =
+    let left = p.names in
+    let right = q.names in
+    one_bad_section c object file left.before right.before left.after right.after left.section right.section left.sets right.sets e f (sym left.place ∙ right.place) left.sound right.sound left.cause right.cause a b
+
+-- ---- one object
+
+same_section : (s t : SectionIndex) (o : Option ℕ) → o ≡ Some s.0 → o ≡ Some t.0 → s ≡ t
+same_section s t o p q = let same : s.0 ≡ t.0 = cc (p, q) in ap (λ (n : ℕ). let i : SectionIndex = record { 0 = n } in i) same
+
+plain_or_not : (o : Option ℕ) (n : ℕ) → o ≡ Some n → o ≡ None → ⊥
+plain_or_not o n p q = cc (p, q)
+
+pub one_scan_cause : HasOneScanCause
+one_scan_cause c object file e f (compressed s found) (compressed t found') a b = ap (λ x. CompressedSection object x) (same_section s t (first_compressed c file) found found')
+one_scan_cause c object file e f (compressed s found) (in_units g none cause) a b = absurd (plain_or_not (first_compressed c file) s.0 found none)
+one_scan_cause c object file e f (compressed s found) (in_names g none fails) a b = absurd (plain_or_not (first_compressed c file) s.0 found none)
+one_scan_cause c object file e f (compressed s found) no_memory a b = absurd (b refl)
+one_scan_cause c object file e f (in_units g none cause) (compressed t found) a b = absurd (plain_or_not (first_compressed c file) t.0 found none)
+one_scan_cause c object file e f (in_units g none cause) (in_units h none' cause') a b = same_unit_refusal object (info_bytes c file) g h (unit_refusal c object file g cause a) (unit_refusal c object file h cause' b)
+one_scan_cause c object file e f (in_units g none cause) (in_names h none' fails) a b = absurd (a (memory_is g (not_in_units c object file (fails.first ∷ fails.others) g fails.units cause)))
+one_scan_cause c object file e f (in_units g none cause) no_memory a b = absurd (b refl)
+one_scan_cause c object file e f (in_names g none fails) (compressed t found) a b = absurd (plain_or_not (first_compressed c file) t.0 found none)
+one_scan_cause c object file e f (in_names g none fails) (in_units h none' cause) a b = absurd (b (memory_is h (not_in_units c object file (fails.first ∷ fails.others) h fails.units cause)))
+one_scan_cause c object file e f (in_names g none fails) (in_names h none' fails') a b = one_names_cause c object file g h fails fails' a b
+one_scan_cause c object file e f (in_names g none fails) no_memory a b = absurd (b refl)
+one_scan_cause c object file e f no_memory q a b = absurd (a refl)
+
+-- ---- several objects
+
+-- the object at a place of sound files is sound
+sound_at : (c : Class) (files : List (List ℕ)) (os : List Object) (k : ℕ) (file : List ℕ) → AreObjectsOf c files os → ArePlain c files → slice_get files k ≡ Some file → (o : Object) × IsObjectOf c file o × (first_compressed c file ≡ None)
+sound_at c [] [] zero file held plain there = absurd cc
+sound_at c [] [] (suc k) file held plain there = absurd cc
+sound_at c [] (o ∷ os) k file held plain there = absurd held
+sound_at c (x ∷ files) [] k file held plain there = absurd held
+sound_at c (x ∷ files) (o ∷ os) zero file held plain there =
+    let is : x ≡ file = cc there in
+    (o, subst (λ (y : List ℕ). IsObjectOf c y o) is held.0, subst (λ (y : List ℕ). first_compressed c y ≡ None) is plain.0)
+sound_at c (x ∷ files) (o ∷ os) (suc k) file held plain there = sound_at c files os k file held.1 plain.1 there
+
+taken_at : (files : List (List ℕ)) (n k : ℕ) → k < n → slice_get (take n files) k ≡ slice_get files k
+taken_at files zero k below = absurd (omega (arith, below))
+taken_at [] (suc n) k below = refl
+taken_at (x ∷ files) (suc n) zero below = refl
+taken_at (x ∷ files) (suc n) (suc k) below = taken_at files n k (omega (arith, below))
+
+-- an object before the first that is at fault is not at fault
+earlier : (c : Class) (files : List (List ℕ)) (e f : GdbError) (p : FirstBadObject c files e) (q : FirstBadObject c files f) → p.object < q.object → e ≡ NoMemory
+earlier c files e f p q below =
+    let at = sound_at c (take q.object files) q.before p.object p.file q.held q.plain (taken_at files q.object p.object below ∙ p.there) in
+    memory_is e (excluded c p.object p.file at.0 e at.1 at.2 p.cause)
+
+same_file : (files : List (List ℕ)) (i j : ℕ) (x y : List ℕ) → i ≡ j → slice_get files i ≡ Some x → slice_get files j ≡ Some y → x ≡ y
+same_file files i j x y same p q = same_bytes x y (sym p ∙ ap (slice_get files) same ∙ q)
+
+same_place : (c : Class) (files : List (List ℕ)) (e f : GdbError) (p : FirstBadObject c files e) (q : FirstBadObject c files f) → p.object ≡ q.object → e ≢ NoMemory → f ≢ NoMemory → e ≡ f
+same_place c files e f p q same a b =
+    let file : p.file ≡ q.file = same_file files p.object q.object p.file q.file same p.there q.there in
+    let left : IsScanCause c q.object q.file e = subst (λ (i : ℕ). IsScanCause c i q.file e) same (subst (λ (x : List ℕ). IsScanCause c p.object x e) file p.cause) in
+    one_scan_cause c q.object q.file e f left q.cause a b
+
+one_bad_object : (c : Class) (files : List (List ℕ)) (e f : GdbError) → FirstBadObject c files e → FirstBadObject c files f → e ≢ NoMemory → f ≢ NoMemory → e ≡ f
+one_bad_object c files e f p q a b = elim (cases_lt p.object q.object) [
+  | inl less ↦ absurd (a (earlier c files e f p q less))
+  | inr ge ↦ elim (cases_lt q.object p.object) [
+    | inl less ↦ absurd (b (earlier c files f e q p less))
+    | inr le ↦ same_place c files e f p q (omega (arith, ge, le)) a b
+  ]
+]
+
+pub one_files_cause : HasOneFilesCause
+one_files_cause c files e f (files_spec.in_object g p) (files_spec.in_object h q) a b = one_bad_object c files g h p q a b
+one_files_cause c files e f (files_spec.in_object g p) files_spec.no_memory a b = absurd (b refl)
+one_files_cause c files e f files_spec.no_memory q a b = absurd (a refl)
+
+-- where all objects are sound, none is at fault
+no_bad_object : (c : Class) (files : List (List ℕ)) (os : List Object) (e : GdbError) → AreObjectsOf c files os → ArePlain c files → FirstBadObject c files e → IsOnlyMemory e
+no_bad_object c files os e held plain p =
+    let at = sound_at c files os p.object p.file held plain p.there in
+    excluded c p.object p.file at.0 e at.1 at.2 p.cause
+
+pub no_files_cause : (c : Class) (files : List (List ℕ)) (os : List Object) (e : GdbError) → AreObjectsOf c files os → ArePlain c files → IsFilesCause c files e → IsOnlyMemory e
+no_files_cause c files os e held plain (files_spec.in_object g p) = no_bad_object c files os g held plain p
+no_files_cause c files os e held plain files_spec.no_memory = tt
+
+pub only_memory_in_files : {X : Type 0} (c : Class) (files : List (List ℕ)) (os : List Object) (r : Result X GdbError) → AreObjectsOf c files os → ArePlain c files → IfErr r (IsFilesCause c files) → IfErr r IsOnlyMemory
+only_memory_in_files c files os (Ok x) held plain cause = cause
+only_memory_in_files c files os (Err e) held plain cause = no_files_cause c files os e held plain cause
+
+-- ---- the size
+
+same_objects : (c : Class) (files : List (List ℕ)) (os ps : List Object) → AreObjectsOf c files os → AreObjectsOf c files ps → os ≡ ps
+same_objects c files os ps p q = objects_are_one_lem.one_list c files os ps p q
+
+same_size : (version : ℕ) (c : Class) (files : List (List ℕ)) (ps : List Placement) (os xs : List Object) (s t : ℕ) → AreObjectsOf c files os → AreObjectsOf c files xs → IsSize version (counts_of os (length (placed c files os ps))) s → IsSize version (counts_of xs (length (placed c files xs ps))) t → s ≡ t
+same_size version c files ps os xs s t p q left right =
+    sizes_are_one_lem.one_size version (counts_of xs (length (placed c files xs ps))) s t (subst (λ (l : List Object). IsSize version (counts_of l (length (placed c files l ps))) s) (same_objects c files os xs p q) left) right
+
+same_number : (c : Class) (files : List (List ℕ)) (os xs : List Object) → AreObjectsOf c files os → AreObjectsOf c files xs → length (units_of_all os) ≡ length (units_of_all xs)
+same_number c files os xs p q = ap (λ (l : List Object). length (units_of_all l)) (same_objects c files os xs p q)
+
+pub one_size_cause : HasOneSizeCause
+one_size_cause version c files ps e f (in_object g p) (in_object h q) a b = one_bad_object c files g h p q a b
+one_size_cause version c files ps e f (in_object g p) (too_many xs held plain many) a b = absurd (a (memory_is g (no_bad_object c files xs g held plain p)))
+one_size_cause version c files ps e f (in_object g p) (too_large xs held plain few size is large) a b = absurd (a (memory_is g (no_bad_object c files xs g held plain p)))
+one_size_cause version c files ps e f (in_object g p) sized_spec.no_memory a b = absurd (b refl)
+one_size_cause version c files ps e f (too_many os held plain many) (in_object h q) a b = absurd (b (memory_is h (no_bad_object c files os h held plain q)))
+one_size_cause version c files ps e f (too_many os held plain many) (too_many xs held' plain' many') a b = ap (λ n. TooManyUnits n) (same_number c files os xs held held')
+one_size_cause version c files ps e f (too_many os held plain many) (too_large xs held' plain' few size is large) a b = absurd (omega (arith, many, few, same_number c files os xs held held'))
+one_size_cause version c files ps e f (too_many os held plain many) sized_spec.no_memory a b = absurd (b refl)
+one_size_cause version c files ps e f (too_large os held plain few size is large) (in_object h q) a b = absurd (b (memory_is h (no_bad_object c files os h held plain q)))
+one_size_cause version c files ps e f (too_large os held plain few size is large) (too_many xs held' plain' many) a b = absurd (omega (arith, many, few, same_number c files os xs held held'))
+one_size_cause version c files ps e f (too_large os held plain few size is large) (too_large xs held' plain' few' size' is' large') a b = ap (λ n. IndexTooLarge n) (same_size version c files ps os xs size size' held held' is is')
+one_size_cause version c files ps e f (too_large os held plain few size is large) sized_spec.no_memory a b = absurd (b refl)
+one_size_cause version c files ps e f sized_spec.no_memory q a b = absurd (a refl)
+
+pub only_size_memory : (version : ℕ) (c : Class) (files : List (List ℕ)) (ps : List Placement) (e : GdbError) → IsIndexable version c files ps → IsSizeCause version c files ps e → IsOnlyMemory e
+only_size_memory version c files ps e index (in_object g p) = no_bad_object c files index.objects g index.held index.plain p
+only_size_memory version c files ps e index (too_many xs held plain many) = absurd (omega (arith, many, index.few, same_number c files index.objects xs index.held held))
+only_size_memory version c files ps e index (too_large xs held plain few size is large) = absurd (omega (arith, large, index.fits, same_size version c files ps index.objects xs index.size size index.held held index.size_is is))
+only_size_memory version c files ps e index sized_spec.no_memory = tt
+
+pub no_size_cause : IndexableHasNoCause
+no_size_cause version c files ps e index cause = memory_is e (only_size_memory version c files ps e index cause)
+
+-- an index with a size that its offsets can count is one
+pub indexable : (version : ℕ) (c : Class) (files : List (List ℕ)) (ps : List Placement) (size : ℕ) (scan : Option Scan) → SizesIndex version c files ps size scan → size < 2 ^ 32 → IsIndexable version c files ps
+indexable version c files ps size scan sized fits = record { objects = sized.objects; held = sized.held; plain = sized.plain; few = sized.few; size = size; size_is = sized.size_is; fits = fits }
