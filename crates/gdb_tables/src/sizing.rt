@@ -1,7 +1,8 @@
 //! The size of the index of all objects, before it is written.
 
-ghost use Rattle.std.specs.Prelude.{◌^◌, ◌<◌, length, IfOk, IfErr, OnOk};
+ghost use Rattle.std.specs.Prelude.{◌^◌, ◌<◌, length, IfOk, IfErr, IfSome, OnOk};
 ghost use Rattle.std.specs.List.{All};
+ghost use Rattle.gdb_index.specs.Size.{IsIndexSize, counts_of};
 ghost use Rattle.gdb_tables.specs.Cause.{IsOnlyMemory};
 ghost use Rattle.gdb_tables.specs.Files.{bytes_of, ArePlacedIn};
 ghost use Rattle.gdb_tables.specs.Sized.{SizesIndex, IsIndexable, IsSizeCause};
@@ -34,6 +35,7 @@ pub fn compute_gdb_index_size<'a, C: ElfClass>(
     requires small { All (λ file. length file.bytes < 2 ^ 39) files.now }
     requires placements { ArePlacedIn C.class (bytes_of files.now) placements.now }
     ensures size { IfOk result (λ sized. SizesIndex INDEX_VERSION C.class (bytes_of files.now) placements.now sized.0 sized.1) }
+    ensures room { IfOk result (λ sized. IfSome sized.1 (λ scan. IsIndexSize INDEX_VERSION (counts_of scan) sized.0)) }
     ensures indexable { OnOk result (IsIndexable INDEX_VERSION C.class (bytes_of files.now) placements.now) }
     ensures cause { IfErr result (IsSizeCause INDEX_VERSION C.class (bytes_of files.now) placements.now) }
     ensures complete { IsIndexable INDEX_VERSION C.class (bytes_of files.now) placements.now → IfErr result IsOnlyMemory }

@@ -1,7 +1,8 @@
-use Rattle.std.proofs.Common.{◌≡◌, ◌^◌, ◌<◌, Some, None, length, ap, sym, ◌∙◌, arith}
+use Rattle.std.proofs.Common.{◌≡◌, ◌^◌, ◌<◌, Some, None, length, ap, sym, subst, ◌∙◌, arith}
 use Rattle.std.proofs.lemmas.Grind.{common_steps}
 use Rattle.std.proofs.lemmas.List.{length-map}
 use Rattle.elf_view.specs.Parsed.{Parsed}
+use Rattle.gdb_index.specs.Size.{IsIndexSize}
 use Rattle.gdb_tables.specs.declared.error.GdbError.TheVariants.{IndexTooLarge}
 use Rattle.gdb_tables.specs.Files.{bytes_of}
 use Rattle.gdb_tables.proofs.IndexSizes.{objects_cause, scans_as_files, merge_cause, gathered, sized_none, counts_small, sized_some, sized_large}
@@ -77,6 +78,9 @@ returns-in-Ok-checked_index_size-clause-size g c =
 
 pub returns-in-Ok-checked_index_size-clause-indexable : goal.returns-in-Ok-checked_index_size-clause-indexable
 returns-in-Ok-checked_index_size-clause-indexable g c = indexable _ g.C.ElfClass.class (bytes_of c.args.files.now) c.args.placements.now c.in-Ok-checked_index_size.size (Some c.in-Ok-merge_gdb_index_scans.merged) (returns-in-Ok-checked_index_size-clause-size g c) (c.in-Ok-checked_index_size.ensures {u = tt}).below
+
+pub returns-in-Ok-checked_index_size-clause-room : goal.returns-in-Ok-checked_index_size-clause-room
+returns-in-Ok-checked_index_size-clause-room g c = subst (λ n. IsIndexSize _ n c.in-Ok-checked_index_size.size) c.counts-counts.ensures (c.in-Ok-checked_index_size.ensures {u = tt}).size
 
 pub returns-clause-cause : goal.returns-clause-cause
 returns-clause-cause g c =
