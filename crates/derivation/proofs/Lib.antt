@@ -1,6 +1,2 @@
-pub mod BareIndex
-pub mod Firsts
-pub mod Faults
-pub mod Stages
-pub mod Single
-pub mod Complete
+mod Parsing
+mod Phases

@@ -1,106 +1,87 @@
 -- Why input has no tables: each error by its cause.
-use Rattle.std.specs.Prelude.{◌≡◌, ◌⊎◌, ℕ, zero, suc, Bool, true, false, not, List, [], ◌∷◌, length, slice_get, position, Some, None}
-use Rattle.std.specs.List.{All}
-use Rattle.elf_format.specs.declared.architecture.Architecture.{Architecture}
-use Rattle.elf_format.specs.declared.error.ElfError.TheVariants.{SectionData}
+use Rattle.std.specs.Prelude.{◌≡◌, ◌≢◌, ℕ, List, not, length, position, Some}
+use Rattle.elf_format.specs.declared.error.ElfError.{ElfError}
 use Rattle.elf_format.specs.declared.index.Span.{Span}
-use Rattle.elf_format.specs.Class.{Class, class64}
-use Rattle.elf_format.specs.Span.{AreInside, is_inside}
-use Rattle.gdb_index_format.specs.declared.unit.CuBoundary.{CuBoundary}
-use Rattle.gdb_index_format.specs.declared.unit.UnitFault.{UnitFault}
-use Rattle.gdb_index_format.specs.Objects.{IsUnitsOf, first_compressed, info_bytes}
-use Rattle.gdb_index_format.specs.Units.{FailsAt}
+use Rattle.elf_format.specs.Class.{class64}
+use Rattle.elf_format.specs.Span.{is_inside}
+use Rattle.elf_view.specs.Parsed.{Parsed}
+use Rattle.gdb_index_format.specs.declared.placement.Placement.{Placement}
+use Rattle.gdb_index_format.specs.Objects.{AreObjectsOf}
+use Rattle.gdb_index_format.specs.Published.{Object}
+use Rattle.gdb_tables.specs.declared.error.GdbError.{GdbError}
+use Rattle.gdb_tables.specs.declared.error.GdbError.TheVariants as gdb
+use Rattle.gdb_tables.specs.Addresses.{first_relocation_fault}
+use Rattle.gdb_tables.specs.Files as files
+use Rattle.gdb_tables.specs.Misplaced.{misplaced}
+use Rattle.gdb_tables.specs.Sized.{IsSizeCause}
+use Rattle.sframe_format.specs.declared.fault.SframeFault.{SframeFault}
+use Rattle.sframe_format.specs.declared.fault.SframeFault.TheVariants as faults
+use Rattle.sframe_format.specs.Valid as frames
 use Rattle.derivation.specs.declared.error.DeriveError.{DeriveError}
 use Rattle.derivation.specs.declared.error.DeriveError.TheVariants as errors
-use Rattle.derivation.specs.Objects.{objects_of, object_fault, IsFirstFaulty}
-use Rattle.derivation.specs.Valid.{AreObjects}
-use Rattle.derivation.specs.Built.{is_beyond}
+use Rattle.derivation.specs.Input.{Input}
+use Rattle.derivation.specs.Objects.{objects_of, parsed_of, index_version, IsFirstFaulty}
+use Rattle.derivation.specs.Valid.{HasSpans, HasObjects, HasPlacements, HasIndex, HasRelocations}
 
--- Why the sections of an object are refused.
-pub data SectionFault : Type 0 where
-  -- the lowest section that is read and has the compressed flag
-  Compressed : ℕ → SectionFault
-  -- the bytes of `.debug_info` leave the object
-  Outside : SectionFault
-  -- the units tile `.debug_info` up to this offset, where none begins
-  Broken : ℕ → UnitFault → SectionFault
+-- the span of this place is the first that is reversed or ends beyond the buffer
+abbrev pub IsSpanCause : Input → DeriveError → Type 0
+IsSpanCause input e = (place : ℕ) × (e ≡ errors.BadSpan place) × (position (λ s. not (is_inside (length input.buffer) s)) input.objects ≡ Some place)
 
-abbrev pub IsSectionFault : Class → List ℕ → SectionFault → Type 0
-IsSectionFault c file (Compressed section) = first_compressed c file ≡ Some section
-IsSectionFault c file Outside = (first_compressed c file ≡ None) × (info_bytes c file ≡ None)
-IsSectionFault c file (Broken offset fault) = (first_compressed c file ≡ None) × ((bytes : List ℕ) × (info_bytes c file ≡ Some bytes) × FailsAt bytes offset fault)
+-- the object of this place is the first with a fault, and this is its fault
+abbrev pub IsObjectCause : Input → DeriveError → Type 0
+IsObjectCause input e = (place : ℕ) × (kind : ElfError) × (e ≡ errors.BadElf place kind) × IsFirstFaulty class64 input.machine (objects_of input.buffer input.objects) place kind
 
--- why the sections of the object at this place are refused
-abbrev pub HasObjectCause : Class → List ℕ → ℕ → DeriveError → Type 0
-HasObjectCause c file object (errors.BadSpan place) = ⊥
-HasObjectCause c file object (errors.BadElf place kind) = (place ≡ object) × (kind ≡ SectionData) × IsSectionFault c file Outside
-HasObjectCause c file object (errors.CompressedSection place section) = (place ≡ object) × IsSectionFault c file (Compressed section.0)
-HasObjectCause c file object (errors.BadUnit place offset fault) = (place ≡ object) × IsSectionFault c file (Broken offset fault)
-HasObjectCause c file object errors.NotBuilt = ⊥
-HasObjectCause c file object errors.NoMemory = Unit {0}
+-- the placement of this place is the first that is not behind the one before it, names an object or a section that is not
+-- there, or ends beyond 64 bits
+abbrev pub IsPlacementCause : Input → DeriveError → Type 0
+IsPlacementCause input e = (place : ℕ) × (e ≡ errors.BadPlacement place) × (misplaced class64 (objects_of input.buffer input.objects) input.placements ≡ Some place)
 
--- the sections of an object are not compressed, and its units are these
-pub record HasUnits (c : Class) (file : List ℕ) (us : List CuBoundary) : Type 0 where
-  pub plain : first_compressed c file ≡ None
-  pub units : IsUnitsOf c file us
+-- an error of the index, as it is told
+abbrev pub of_gdb_error : GdbError → DeriveError
+of_gdb_error (gdb.BadElf object kind) = errors.BadElf object kind
+of_gdb_error (gdb.CompressedSection object section) = errors.CompressedSection object section
+of_gdb_error (gdb.BadUnit object offset fault) = errors.BadUnit object offset fault
+of_gdb_error (gdb.BadPubnames object section) = errors.BadPubnames object section
+of_gdb_error (gdb.TooManyUnits count) = errors.TooManyUnits count
+of_gdb_error (gdb.IndexTooLarge size) = errors.IndexTooLarge size
+of_gdb_error gdb.NoMemory = errors.NoMemory
 
-abbrev pub HasSomeUnits : Class → List ℕ → Type 0
-HasSomeUnits c file = (us : List CuBoundary) × HasUnits c file us
+-- the index of files has no size, for this cause
+abbrev pub IsUnsized : List (List ℕ) → List Placement → DeriveError → Type 0
+IsUnsized bytes placements e = (g : GdbError) × (g ≢ gdb.NoMemory) × (e ≡ of_gdb_error g) × IsSizeCause index_version class64 bytes placements g
 
--- the first object whose sections are refused, by its place
-abbrev pub IsFirstRefused : Class → List (List ℕ) → ℕ → SectionFault → Type 0
-IsFirstRefused c [] place fault = ⊥
-IsFirstRefused c (file ∷ files) zero fault = IsSectionFault c file fault
-IsFirstRefused c (file ∷ files) (suc place) fault = HasSomeUnits c file × IsFirstRefused c files place fault
+abbrev pub IsIndexCause : Input → DeriveError → Type 0
+IsIndexCause input e = IsUnsized (objects_of input.buffer input.objects) input.placements e
 
--- spans and objects are as they should
-pub record AreSound (expected : Architecture) (buffer : List ℕ) (spans : List Span) : Type 0 where
-  pub inside : AreInside (length buffer) spans
-  pub objects : AreObjects class64 expected (objects_of buffer spans)
+-- the object of this place is the first with two units or more for which the relocations of its units are at fault
+abbrev pub IsUnrelocated : List Parsed → DeriveError → Type 0
+IsUnrelocated parsed e =
+    (os : List Object) × (place : ℕ) × (kind : ElfError) × (e ≡ errors.BadElf place kind) × AreObjectsOf class64 (files.bytes_of parsed) os × (first_relocation_fault class64 parsed os ≡ Some (place, kind))
 
--- some object is more than what is built
-pub record IsBeyond (c : Class) (files : List (List ℕ)) : Type 0 where
-  pub place : ℕ
-  pub file : List ℕ
-  pub there : slice_get files place ≡ Some file
-  pub us : List CuBoundary
-  pub holds : HasUnits c file us
-  pub beyond : is_beyond c file us ≡ true
+abbrev pub IsRelocationCause : Input → DeriveError → Type 0
+IsRelocationCause input e = IsUnrelocated (parsed_of input.buffer input.objects) e
 
--- what stands before the sections of objects are read
-pub record IsRefusedAt (expected : Architecture) (buffer : List ℕ) (spans : List Span) (place : ℕ) (fault : SectionFault) : Type 0 where
-  pub sound : AreSound expected buffer spans
-  pub first : IsFirstRefused class64 (objects_of buffer spans) place fault
+-- an error of the SFrame section, as it is told
+abbrev pub of_sframe_fault : SframeFault → DeriveError
+of_sframe_fault (faults.BadRange place) = errors.BadRange place
+of_sframe_fault (faults.BadMagic value offset) = errors.BadMagicBytes value offset
+of_sframe_fault (faults.Truncated kind offset) = errors.SframeTruncated kind offset
+of_sframe_fault (faults.TooLarge kind needed limit) = errors.SframeTooLarge kind needed limit
+of_sframe_fault (faults.AddressRange function value) = errors.SframeAddressRange function value
+of_sframe_fault faults.NoMemory = errors.NoMemory
 
--- the cause of an error where the form of the input is built
-abbrev pub HasBuiltCause : Architecture → List ℕ → List Span → DeriveError → Type 0
-HasBuiltCause expected buffer spans (errors.BadSpan place) = position (λ s. not (is_inside (length buffer) s)) spans ≡ Some place
-HasBuiltCause expected buffer spans (errors.BadElf place kind) =
-    (AreInside (length buffer) spans × IsFirstFaulty class64 expected (objects_of buffer spans) place kind)
-    ⊎ ((kind ≡ SectionData) × IsRefusedAt expected buffer spans place Outside)
-HasBuiltCause expected buffer spans (errors.CompressedSection place section) = IsRefusedAt expected buffer spans place (Compressed section.0)
-HasBuiltCause expected buffer spans (errors.BadUnit place offset fault) = IsRefusedAt expected buffer spans place (Broken offset fault)
-HasBuiltCause expected buffer spans errors.NotBuilt =
-    AreSound expected buffer spans × All (HasSomeUnits class64) (objects_of buffer spans) × IsBeyond class64 (objects_of buffer spans)
-HasBuiltCause expected buffer spans errors.NoMemory = Unit {0}
+-- the SFrame section is not ordered, for this cause
+abbrev pub IsUnordered : List ℕ → List Span → DeriveError → Type 0
+IsUnordered sframe ranges e = (g : SframeFault) × (g ≢ faults.NoMemory) × (e ≡ of_sframe_fault g) × frames.HasCause sframe ranges g
 
--- The cause of an error; want of memory has none.
-abbrev pub HasCause : Architecture → List ℕ → List Span → Bool → DeriveError → Type 0
-HasCause expected buffer spans false e = (e ≡ errors.NotBuilt) ⊎ (e ≡ errors.NoMemory)
-HasCause expected buffer spans true e = HasBuiltCause expected buffer spans e
+abbrev pub IsSframeCause : Input → DeriveError → Type 0
+IsSframeCause input e = IsUnordered input.sframe input.ranges e
 
--- what is known of one object that has tables
-pub record HasOneUnits (expected : Architecture) (file : List ℕ) (us : List CuBoundary) : Type 0 where
-  pub sound : object_fault class64 expected file ≡ None
-  pub holds : HasUnits class64 file us
-  pub within : is_beyond class64 file us ≡ false
-
--- why the only object of an input has none
-abbrev pub HasOneCause : Architecture → List ℕ → DeriveError → Type 0
-HasOneCause expected file (errors.BadSpan place) = ⊥
-HasOneCause expected file (errors.BadElf place kind) =
-    (place ≡ 0) × ((object_fault class64 expected file ≡ Some kind) ⊎ ((object_fault class64 expected file ≡ None) × (kind ≡ SectionData) × IsSectionFault class64 file Outside))
-HasOneCause expected file (errors.CompressedSection place section) = (place ≡ 0) × (object_fault class64 expected file ≡ None) × IsSectionFault class64 file (Compressed section.0)
-HasOneCause expected file (errors.BadUnit place offset fault) = (place ≡ 0) × (object_fault class64 expected file ≡ None) × IsSectionFault class64 file (Broken offset fault)
-HasOneCause expected file errors.NotBuilt = (object_fault class64 expected file ≡ None) × ((us : List CuBoundary) × HasUnits class64 file us × (is_beyond class64 file us ≡ true))
-HasOneCause expected file errors.NoMemory = Unit {0}
+-- The cause of an error: that of the first condition, in this order, which does not hold. Want of memory has none.
+pub data HasCause (input : Input) (e : DeriveError) : Type 0 where
+  in_spans : IsSpanCause input e → HasCause input e
+  in_objects : HasSpans input → IsObjectCause input e → HasCause input e
+  in_placements : HasSpans input → HasObjects input → IsPlacementCause input e → HasCause input e
+  in_index : HasSpans input → HasObjects input → HasPlacements input → IsIndexCause input e → HasCause input e
+  in_relocations : HasSpans input → HasObjects input → HasPlacements input → HasIndex input → IsRelocationCause input e → HasCause input e
+  in_sframe : HasSpans input → HasObjects input → HasPlacements input → HasIndex input → HasRelocations input → IsSframeCause input e → HasCause input e

@@ -1,6 +1,5 @@
+pub mod Input
 pub mod Objects
 pub mod Valid
-pub mod Built
 pub mod Cause
 pub mod Derived
-pub mod BareIndex

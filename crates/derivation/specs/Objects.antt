@@ -1,5 +1,6 @@
 -- The objects of an input: their bytes, and what is wrong with one of them before its tables are read.
-use Rattle.std.specs.Prelude.{◌≡◌, ℕ, false, not, ◌==◌, if◌then◌else◌, List, map, slice_get, position, Option, Some, None, is_some, option_and_then}
+use Rattle.std.specs.Prelude.{◌≡◌, ℕ, false, not, ◌==◌, if◌then◌else◌, List, map, take, slice_get, Option, Some, None}
+use Rattle.std.specs.List.{All}
 use Rattle.std.specs.Option.{option_or}
 use Rattle.elf_format.specs.declared.architecture.Architecture.{Architecture}
 use Rattle.elf_format.specs.declared.error.ElfError.{ElfError}
@@ -11,10 +12,22 @@ use Rattle.elf_format.specs.Class.{Class, e_type, e_machine}
 use Rattle.elf_format.specs.Fault.{fault}
 use Rattle.elf_format.specs.Section.{file_header}
 use Rattle.elf_format.specs.Span.{bytes_of}
+use Rattle.elf_view.specs.Parsed.{Parsed}
 
 -- the bytes of each object
 abbrev pub objects_of : List ℕ → List Span → List (List ℕ)
 objects_of buffer spans = map (bytes_of buffer) spans
+
+-- each object as it is parsed
+abbrev pub parsed_at : List ℕ → Span → Parsed
+parsed_at buffer span = record { bytes = bytes_of buffer span; is_dynamic = false }
+
+abbrev pub parsed_of : List ℕ → List Span → List Parsed
+parsed_of buffer spans = map (parsed_at buffer) spans
+
+-- the version of the index that is written
+abbrev pub index_version : ℕ
+index_version = 9
 
 -- the type of a relocatable file (gABI, ELF Header, e_type)
 abbrev pub et_rel : ℕ
@@ -31,7 +44,13 @@ kind_fault c expected file =
 unfoldable pub object_fault : Class → Architecture → List ℕ → Option ElfError
 object_fault c expected file = option_or (fault c false file) (kind_fault c expected file)
 
+-- each object is well formed, relocatable and for the machine
+abbrev pub AreObjects : Class → Architecture → List (List ℕ) → Type 0
+AreObjects c expected files = All (λ file. object_fault c expected file ≡ None) files
+
 -- the first object with a fault, by its place, and its fault
 pub record IsFirstFaulty (c : Class) (expected : Architecture) (files : List (List ℕ)) (place : ℕ) (kind : ElfError) : Type 0 where
-  pub first : position (λ file. is_some (object_fault c expected file)) files ≡ Some place
-  pub kind_is : option_and_then (object_fault c expected) (slice_get files place) ≡ Some kind
+  pub file : List ℕ
+  pub there : slice_get files place ≡ Some file
+  pub before : AreObjects c expected (take place files)
+  pub fault_is : object_fault c expected file ≡ Some kind

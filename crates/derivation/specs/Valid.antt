@@ -1,26 +1,52 @@
 -- Which input has tables.
-use Rattle.std.specs.Prelude.{◌≡◌, ℕ, List, length, None}
-use Rattle.std.specs.List.{All}
-use Rattle.elf_format.specs.declared.architecture.Architecture.{Architecture}
-use Rattle.elf_format.specs.declared.index.Span.{Span}
-use Rattle.elf_format.specs.Class.{Class, class64}
+use Rattle.std.specs.Prelude.{◌≡◌, List, length, None}
+use Rattle.elf_format.specs.Class.{class64}
 use Rattle.elf_format.specs.Span.{AreInside}
-use Rattle.gdb_index_format.specs.Objects.{IsObjectOf, first_compressed}
+use Rattle.elf_view.specs.Parsed.{Parsed}
+use Rattle.gdb_index_format.specs.Objects.{AreObjectsOf}
 use Rattle.gdb_index_format.specs.Published.{Object}
-use Rattle.derivation.specs.Objects.{objects_of, object_fault}
+use Rattle.gdb_tables.specs.Addresses.{first_relocation_fault}
+use Rattle.gdb_tables.specs.Files as files
+use Rattle.gdb_tables.specs.Sized.{IsIndexable}
+use Rattle.sframe_format.specs.Valid as frames
+use Rattle.derivation.specs.Input.{Input}
+use Rattle.derivation.specs.Objects.{objects_of, parsed_of, index_version, AreObjects}
+
+-- the spans of the objects lie in the buffer
+abbrev pub HasSpans : Input → Type 0
+HasSpans input = AreInside (length input.buffer) input.objects
 
 -- each object is well formed, relocatable and for the machine
-abbrev pub AreObjects : Class → Architecture → List (List ℕ) → Type 0
-AreObjects c expected files = All (λ file. object_fault c expected file ≡ None) files
+abbrev pub HasObjects : Input → Type 0
+HasObjects input = AreObjects class64 input.machine (objects_of input.buffer input.objects)
 
--- The sections of an object that the index is made from are not compressed, and hold units and, where there is a unit, sets of names.
-pub record IsReadable (c : Class) (file : List ℕ) : Type 0 where
-  pub plain : first_compressed c file ≡ None
-  pub object : Object
-  pub holds : IsObjectOf c file object
+-- The placements strictly ascend by object and section, each names an object and a section that are there, and each end
+-- fits 64 bits.
+abbrev pub HasPlacements : Input → Type 0
+HasPlacements input = files.ArePlacedIn class64 (objects_of input.buffer input.objects) input.placements
 
--- Each condition by its own name.
-pub record IsValid (expected : Architecture) (buffer : List ℕ) (spans : List Span) : Type 0 where
-  pub inside : AreInside (length buffer) spans
-  pub objects : AreObjects class64 expected (objects_of buffer spans)
-  pub sections : All (IsReadable class64) (objects_of buffer spans)
+-- In each object the first `.debug_info` and the sections of names are not compressed, their bytes are there, and they hold
+-- units and, where there is a unit, sets of names; there are at most 2^24 units; and the index has fewer than 2^32 bytes.
+abbrev pub HasIndex : Input → Type 0
+HasIndex input = IsIndexable index_version class64 (objects_of input.buffer input.objects) input.placements
+
+-- in each of these objects that has two units or more, the relocations of its units are read
+abbrev pub AreRelocated : List Parsed → Type 0
+AreRelocated parsed = (os : List Object) → AreObjectsOf class64 (files.bytes_of parsed) os → first_relocation_fault class64 parsed os ≡ None
+
+abbrev pub HasRelocations : Input → Type 0
+HasRelocations input = AreRelocated (parsed_of input.buffer input.objects)
+
+-- The ranges lie in the SFrame bytes, which are fewer than 2^32; their contributions are sound; and the merged section has
+-- room, and fits the numbers of its fields.
+abbrev pub HasSframe : Input → Type 0
+HasSframe input = frames.IsValid input.sframe input.ranges
+
+-- each condition by its own name
+pub record IsValid (input : Input) : Type 0 where
+  pub spans : HasSpans input
+  pub objects : HasObjects input
+  pub placements : HasPlacements input
+  pub index : HasIndex input
+  pub relocations : HasRelocations input
+  pub sframe : HasSframe input
