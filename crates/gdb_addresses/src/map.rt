@@ -18,7 +18,7 @@ use elf_view::File;
 use elf_words::ElfClass;
 use gdb_index_format::CuBoundary;
 use gdb_sections::cu_index_for_offset;
-use std::alloc::{AllocError, Global};
+use std::alloc::Global;
 use std::collections::HashMap;
 
 /// Notes of a section the unit that holds an offset, unless a unit is noted of it already.

@@ -13,3 +13,4 @@ pub mod Scanning
 pub mod Weighing
 pub mod Counting
 pub mod IndexSizes
+pub mod Misplacing

@@ -9,3 +9,5 @@ pub mod Scanned
 pub mod Merged
 pub mod Files
 pub mod Sized
+pub mod Misplaced
+pub mod Addresses

@@ -8,6 +8,7 @@ mod error;
 mod files;
 mod mark;
 mod merge;
+mod misplaced;
 mod names;
 mod object_names;
 mod object_scan;
@@ -30,6 +31,7 @@ pub use gdb_sections::{
 };
 pub use mark::{Mark, NameMarks};
 pub use merge::merge_gdb_index_scans;
+pub use misplaced::{first_misplaced, placed_are_not_misplaced};
 pub use object_scan::PerObjectScan;
 pub use scan::scan_one_object;
 pub use sizing::compute_gdb_index_size;
