@@ -3,6 +3,7 @@
 //! which are found here too, an index is then written and read.
 #![tactic(auto)]
 
+mod addresses;
 mod ascending;
 mod error;
 mod files;
