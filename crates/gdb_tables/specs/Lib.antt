@@ -10,3 +10,5 @@ pub mod Merged
 pub mod Files
 pub mod Sized
 pub mod Laws
+pub mod Misplaced
+pub mod Addresses

@@ -3,12 +3,14 @@
 //! which are found here too, an index is then written and read.
 #![tactic(auto)]
 
+mod addresses;
 mod ascending;
 mod error;
 mod files;
 mod laws;
 mod mark;
 mod merge;
+mod misplaced;
 mod names;
 mod object_names;
 mod object_scan;
@@ -32,6 +34,7 @@ pub use gdb_sections::{
 pub use laws::{indexable_has_no_cause, scan_causes_are_one, size_causes_are_one};
 pub use mark::{Mark, NameMarks};
 pub use merge::merge_gdb_index_scans;
+pub use misplaced::{first_misplaced, placed_are_not_misplaced};
 pub use object_scan::PerObjectScan;
 pub use scan::scan_one_object;
 pub use sizing::compute_gdb_index_size;

@@ -20,7 +20,7 @@ pub(crate) fn placements_of(object: usize, placements: &[Placement]) -> &[Placem
 }
 
 /// Whether a placed section has a size, takes memory and holds instructions.
-fn is_code_placement<C: ElfClass>(file: &File<'_, C>, placement: &Placement) -> bool
+pub(crate) fn is_code_placement<C: ElfClass>(file: &File<'_, C>, placement: &Placement) -> bool
     ensures { result ≡ is_counted C.class file.now.bytes placement.now }
 {
     if placement.size == 0 {

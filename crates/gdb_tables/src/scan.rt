@@ -30,7 +30,7 @@ use indexmap::IndexMap;
 use std::alloc::Global;
 
 /// The units of an object.
-fn read_units<C: ElfClass>(
+pub(crate) fn read_units<C: ElfClass>(
     alloc: Global,
     object: usize,
     file: &File<'_, C>,

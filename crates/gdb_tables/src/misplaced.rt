@@ -1,0 +1,71 @@
+//! The order of placements: those that an index is made from ascend by object and section, name objects and
+//! sections that are there, and their ends fit 64 bits.
+
+ghost use Rattle.std.specs.Prelude.{◌≡◌, ℕ, List, None, slice_get};
+ghost use Rattle.elf_format.specs.Class.{Class};
+ghost use Rattle.gdb_index_format.specs.declared.placement.Placement.{Placement as Placement_spec};
+ghost use Rattle.gdb_tables.specs.Files.{bytes_of, ArePlacedIn};
+ghost use Rattle.gdb_tables.specs.Misplaced.{is_behind, is_there, is_in_place, misplaced};
+
+use elf_view::File;
+use elf_words::ElfClass;
+use gdb_index_format::Placement;
+
+/// Whether a placement stands behind the one before it, by object and then by section.
+fn is_behind(before: Option<Placement>, placement: &Placement) -> bool
+    ensures { result ≡ Rattle.gdb_tables.specs.Misplaced.is_behind before placement.now }
+{
+    match before {
+        Some(before) => before.object < placement.object
+            || before.object == placement.object && before.section < placement.section,
+        None => true,
+    }
+}
+
+/// Whether the section of a placement is there.
+fn is_there<C: ElfClass>(files: &[File<'_, C>], placement: &Placement) -> bool
+    ensures { result ≡ Rattle.gdb_tables.specs.Misplaced.is_there C.class (slice_get (bytes_of files.now) placement.now.object) placement.now.section }
+{
+    match files.get(placement.object) {
+        Some(file) => placement.section < file.num_sections(),
+        None => false,
+    }
+}
+
+/// Whether a placement may stand behind the one before it.
+fn is_in_place<C: ElfClass>(
+    files: &[File<'_, C>],
+    before: Option<Placement>,
+    placement: &Placement,
+) -> bool
+    ensures { result ≡ Rattle.gdb_tables.specs.Misplaced.is_in_place C.class (bytes_of files.now) (before, placement.now) }
+{
+    is_behind(before, placement)
+        && is_there(files, placement)
+        && placement.address.checked_add(placement.size).is_some()
+}
+
+/// The first placement, by its place from 0, that is not as an index asks: it is not above the one before it, by
+/// object and then by section, or its object or its section is not there, or its end does not fit 64 bits. None
+/// where all are.
+pub fn first_misplaced<C: ElfClass>(
+    files: &[File<'_, C>],
+    placements: &[Placement],
+) -> Option<usize>
+    ensures first { result ≡ misplaced C.class (bytes_of files.now) placements.now }
+    ensures none { result ≡ None → ArePlacedIn C.class (bytes_of files.now) placements.now }
+{
+    let mut before = None;
+    for (index, placement) in placements.iter().enumerate() {
+        if !is_in_place(files, before, placement) {
+            return Some(index);
+        }
+        before = Some(*placement);
+    }
+    None
+}
+
+/// Placements in their order, of sections that are there and with ends that fit, have none that is misplaced.
+pub fn placed_are_not_misplaced()
+    ensures { (c : Class) (files : List (List ℕ)) (ps : List Placement_spec) → ArePlacedIn c files ps → misplaced c files ps ≡ None }
+{}
