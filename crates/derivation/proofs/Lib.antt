@@ -1,2 +1,6 @@
 mod Parsing
 mod Phases
+mod Refusing
+mod Indexing
+mod NoUnits
+pub mod Answering

@@ -13,3 +13,7 @@ pub record Input : Type 0 where
   pub placements : List Placement
   pub sframe : List ℕ
   pub ranges : List Span
+
+abbrev pub input_of : Architecture → List ℕ → List Span → List Placement → List ℕ → List Span → Input
+input_of machine buffer objects placements sframe ranges =
+    record { machine = machine; buffer = buffer; objects = objects; placements = placements; sframe = sframe; ranges = ranges }

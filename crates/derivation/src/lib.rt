@@ -3,7 +3,11 @@
 //! tables are stands in `specs/`.
 #![tactic(auto)]
 
+mod derive;
 mod error;
+mod index;
 mod object;
+mod order;
 
+pub use derive::{Derived, derive_tables};
 pub use error::DeriveError;

@@ -4,7 +4,7 @@ use Rattle.derivation.proofs.object.parse_objects.Goals as goal
 
 pub returns-in-Err-clause-cause : goal.returns-in-Err-clause-cause
 returns-in-Err-clause-cause c =
-    inr (c.loop-place.place, (c.in-Err.kind, (refl, first_faulty c.args.expected c.args.buffer.now c.args.spans.now c.loop-place.place c.in-Err.kind c.loop-place-test.true c.loop-place.invariant.sound c.in-Err.ensures.fault)))
+    inr (c.loop-place.place, c.in-Err.kind, refl, first_faulty c.args.expected c.args.buffer.now c.args.spans.now c.loop-place.place c.in-Err.kind c.loop-place-test.true c.loop-place.invariant.sound c.in-Err.ensures.fault)
 
 pub loop-place-preserved : goal.loop-place-preserved
 loop-place-preserved c = record {

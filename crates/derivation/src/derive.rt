@@ -1,0 +1,127 @@
+//! From objects to tables, in phases: an error of a phase comes only where the earlier phases found nothing.
+
+ghost use Rattle.std.specs.Prelude.{◌≡◌, ◌⊎◌, MatchResult, ◌<◌, ◌^◌, length, OnOk, IfOk, IfErr};
+ghost use Rattle.elf_format.specs.Class.{class64};
+ghost use Rattle.sframe_format.specs.Sorted.{SortOf};
+ghost use Rattle.derivation.specs.Cause.{HasCause};
+ghost use Rattle.derivation.specs.Derived.{IsIndexOf};
+ghost use Rattle.derivation.specs.Input.{input_of};
+ghost use Rattle.derivation.specs.Objects.{parsed_of};
+ghost use Rattle.derivation.specs.Valid.{IsValid};
+ghost use Rattle.derivation.specs.declared.error.DeriveError.{DeriveError as DeriveError_spec};
+ghost use Rattle.derivation.specs.declared.error.DeriveError.TheVariants.{NoMemory};
+
+use crate::DeriveError;
+use crate::index::index_tables;
+use crate::object::parse_objects;
+use crate::order::order_sframe;
+use elf_format::{Architecture, Span};
+use elf_words::first_outside;
+use gdb_index_format::{CuBoundary, NameWords, Placement};
+use gdb_tables::first_misplaced;
+use sframe_format::SframeOutcome;
+use std::alloc::Global;
+
+/// The tables that were derived.
+#[derive(Debug, Drop)]
+pub struct Derived<'a> {
+    /// The units of all objects in input order: each offset, in bytes, is the sum of the lengths before it.
+    pub units: Vec<CuBoundary>,
+    /// The published names in ascending byte order, each with its words.
+    pub names: Vec<NameWords<'a>>,
+    /// The bytes of the `.gdb_index` section: none without a unit.
+    pub index: Vec<u8>,
+    /// The bytes of the SFrame section, ordered by address.
+    pub sframe: Vec<u8>,
+    /// What ordering the SFrame section came to.
+    pub outcome: SframeOutcome,
+}
+
+/// The tables of an input, without a look at what refuses it for another cause.
+fn derive_phases<'a>(
+    alloc: Global,
+    expected: Architecture,
+    buffer: &'a [u8],
+    objects: &[Span],
+    placements: &[Placement],
+    sframe: &[u8],
+    ranges: &[Span],
+    base: u64,
+) -> Result<Derived<'a>, DeriveError>
+    requires buffer { length buffer.now < 2 ^ 39 }
+    requires objects { length objects.now < 2 ^ 24 }
+    ensures valid { OnOk result (IsValid (input_of expected buffer.now objects.now placements.now sframe.now ranges.now)) }
+    ensures cause { IfErr result (λ e. (e ≡ NoMemory) ⊎ HasCause (input_of expected buffer.now objects.now placements.now sframe.now ranges.now) e) }
+    ensures index { IfOk result (λ d. IsIndexOf class64 (parsed_of buffer.now objects.now) placements.now d.units.items d.names.items d.index.items) }
+    ensures sframe { IfOk result (λ d. SortOf sframe.now ranges.now d.sframe.items d.outcome) }
+{
+    if let Some(place) = first_outside(buffer.len(), objects) {
+        return Err(DeriveError::BadSpan(place));
+    }
+    let files = match parse_objects(alloc, expected, buffer, objects) {
+        Ok(files) => files,
+        Err(error) => return Err(error),
+    };
+    if let Some(place) = first_misplaced(&files, placements) {
+        return Err(DeriveError::BadPlacement(place));
+    }
+    let tables = match index_tables(alloc, &files, placements) {
+        Ok(tables) => tables,
+        Err(error) => return Err(error),
+    };
+    match order_sframe(alloc, sframe, ranges, base) {
+        Ok((sframe, outcome)) => Ok(Derived {
+            units: tables.units,
+            names: tables.names,
+            index: tables.index,
+            sframe,
+            outcome,
+        }),
+        Err(error) => Err(error),
+    }
+}
+
+/// The tables of objects, which are spans of `buffer`, for a machine: their index for debuggers (GDB manual,
+/// "Index Section Format"), and the given SFrame section ordered by address (SFrame 2), whose first byte is loaded
+/// at `base`. The placements say where sections of the objects were put, the ranges which bytes of the SFrame
+/// section are contributions.
+///
+/// Input has tables exactly where each span lies in the buffer; each object is a relocatable file of the machine;
+/// the placements ascend by object and section, name sections that are there, and end within 64 bits; the sections
+/// that the index is made from are not compressed and hold units and sets of names; there are at most 2^24 units; the
+/// index has fewer than 2^32 bytes; the relocations of the units of an object with two units or more are read; and the
+/// ranges and contributions of the SFrame section are sound, have room and fit their fields. Each error but `NoMemory`
+/// comes exactly where its cause is the first, in this order; no table is given then. `NoMemory` may come for any input.
+///
+/// The buffer has fewer than 2^39 bytes, and there are fewer than 2^24 objects. Spans may overlap.
+#[tactic(auto, using(crate::proofs::Answering::refused_by, crate::proofs::Answering::complete_by))]
+pub fn derive_tables<'a>(
+    alloc: Global,
+    expected: Architecture,
+    buffer: &'a [u8],
+    objects: &[Span],
+    placements: &[Placement],
+    sframe: &[u8],
+    ranges: &[Span],
+    base: u64,
+) -> Result<Derived<'a>, DeriveError>
+    requires buffer { length buffer.now < 2 ^ 39 }
+    requires objects { length objects.now < 2 ^ 24 }
+
+    // Ok exactly on valid input, and each error exactly by its cause
+    ensures valid { OnOk result (IsValid (input_of expected buffer.now objects.now placements.now sframe.now ranges.now)) }
+    ensures cause { IfErr result (λ e. (e ≡ NoMemory) ⊎ HasCause (input_of expected buffer.now objects.now placements.now sframe.now ranges.now) e) }
+    ensures exact { (e : DeriveError_spec) → HasCause (input_of expected buffer.now objects.now placements.now sframe.now ranges.now) e → MatchResult result (λ _. ⊥) (λ f. (f ≡ e) ⊎ (f ≡ NoMemory)) }
+    ensures complete { IsValid (input_of expected buffer.now objects.now placements.now sframe.now ranges.now) → IfErr result (λ e. e ≡ NoMemory) }
+
+    // the tables
+    ensures index { IfOk result (λ d. IsIndexOf class64 (parsed_of buffer.now objects.now) placements.now d.units.items d.names.items d.index.items) }
+    ensures sframe { IfOk result (λ d. SortOf sframe.now ranges.now d.sframe.items d.outcome) }
+{
+    match derive_phases(
+        alloc, expected, buffer, objects, placements, sframe, ranges, base,
+    ) {
+        Ok(derived) => Ok(derived),
+        Err(error) => Err(error),
+    }
+}
