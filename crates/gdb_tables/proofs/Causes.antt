@@ -28,13 +28,13 @@ no_bytes (Err f) e o is found = sym found
 pub bad_elf : (c : Class) (object : ℕ) (file : List ℕ) (s : ℕ × List ℕ) (e : GdbError) → section_bytes c file s.1 ≡ None → e ≡ BadElf object SectionData → IsSectionCause c object file s e
 bad_elf c object file s e none is = subst (IsSectionCause c object file s) (sym is) (leaves none)
 
-same_bytes : (x y : List ℕ) → Some x ≡ Some y → x ≡ y
+pub same_bytes : (x y : List ℕ) → Some x ≡ Some y → x ≡ y
 same_bytes x y e = cc e
 
-there_or_not : (o : Option (List ℕ)) (b : List ℕ) → o ≡ Some b → o ≡ None → ⊥
+pub there_or_not : (o : Option (List ℕ)) (b : List ℕ) → o ≡ Some b → o ≡ None → ⊥
 there_or_not o b p q = cc (p, q)
 
-not_in_units : (c : Class) (object : ℕ) (file : List ℕ) (us : List CuBoundary) (e : GdbError) → IsUnitsOf c file us → IsUnitCause c object file e → IsOnlyMemory e
+pub not_in_units : (c : Class) (object : ℕ) (file : List ℕ) (us : List CuBoundary) (e : GdbError) → IsUnitsOf c file us → IsUnitCause c object file e → IsOnlyMemory e
 not_in_units c object file us (BadElf i kind) units cause = there_or_not (info_bytes c file) units.bytes units.there cause.2
 not_in_units c object file us (CompressedSection i s) units cause = cause
 not_in_units c object file us (BadUnit i offset fault) units cause =
@@ -59,12 +59,12 @@ not_sets object at bytes (TooManyUnits n) ts list cause = cause
 not_sets object at bytes (IndexTooLarge n) ts list cause = cause
 not_sets object at bytes NoMemory ts list cause = tt
 
-not_in_section : (c : Class) (object : ℕ) (file : List ℕ) (s : ℕ × List ℕ) (e : GdbError) (ts : List NameSet) → AreSetsIn (section_bytes c file s.1) ts → IsSectionCause c object file s e → IsOnlyMemory e
+pub not_in_section : (c : Class) (object : ℕ) (file : List ℕ) (s : ℕ × List ℕ) (e : GdbError) (ts : List NameSet) → AreSetsIn (section_bytes c file s.1) ts → IsSectionCause c object file s e → IsOnlyMemory e
 not_in_section c object file s e ts held (leaves none) = absurd (there_or_not (section_bytes c file s.1) held.bytes held.there none)
 not_in_section c object file s e ts held (no_sets bytes there f cause) =
     not_sets object (record { 0 = s.0 }) bytes f ts (subst (λ b. IsSetList b ts) (same_bytes held.bytes bytes (sym held.there ∙ there)) held.list) cause
 
-not_in_names : (c : Class) (object : ℕ) (file : List ℕ) (us : List CuBoundary) (ss : List NameSet) (e : GdbError) → IsUnitsOf c file us → AreSetsBeside c file us ss → FailsInNames c object file e → IsOnlyMemory e
+pub not_in_names : (c : Class) (object : ℕ) (file : List ℕ) (us : List CuBoundary) (ss : List NameSet) (e : GdbError) → IsUnitsOf c file us → AreSetsBeside c file us ss → FailsInNames c object file e → IsOnlyMemory e
 not_in_names c object file [] ss e units beside fails = absurd (apart (one_units (info_bytes c file) [] (fails.first ∷ fails.others) units fails.units)) where
   apart : [] ≡ fails.first ∷ fails.others → ⊥
   apart same = cc same
@@ -73,7 +73,7 @@ not_in_names c object file (u ∷ us) ss e units beside fails =
     let at = sets_at c file bad.before bad.section bad.after ss (subst (λ l. AreSetsOfSections c file l ss) bad.place beside) in
     not_in_section c object file bad.section e at.0 at.1 bad.cause
 
-excluded : (c : Class) (object : ℕ) (file : List ℕ) (o : Object) (e : GdbError) → IsObjectOf c file o → first_compressed c file ≡ None → IsScanCause c object file e → IsOnlyMemory e
+pub excluded : (c : Class) (object : ℕ) (file : List ℕ) (o : Object) (e : GdbError) → IsObjectOf c file o → first_compressed c file ≡ None → IsScanCause c object file e → IsOnlyMemory e
 excluded c object file o e is plain (compressed s found) = absurd (apart (sym found ∙ plain)) where
   apart : Some s.0 ≡ None → ⊥
   apart same = cc same

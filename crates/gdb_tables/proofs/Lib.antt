@@ -14,3 +14,4 @@ pub mod Weighing
 pub mod Counting
 pub mod IndexSizes
 pub mod Misplacing
+pub mod Adjoining

@@ -9,7 +9,7 @@ ghost use Rattle.gdb_index_format.specs.Addresses.{unit_of_section, unit_relocat
 ghost use Rattle.gdb_index_format.specs.Objects.{IsUnitsOf, AreObjectsOf};
 ghost use Rattle.gdb_index_format.specs.Placed.{placed};
 ghost use Rattle.gdb_index_format.specs.Published.{Object};
-ghost use Rattle.gdb_tables.specs.Addresses.{addresses, first_relocation_fault, entry_at, entries_at, entries_of, unit_told, IsEntriesCause, IsAddressCause};
+ghost use Rattle.gdb_tables.specs.Addresses.{addresses, first_relocation_fault, of_map_error, entry_at, entries_at, entries_of, unit_told, IsEntriesCause, IsAddressCause};
 ghost use Rattle.gdb_tables.specs.Files.{bytes_of, ArePlacedIn};
 ghost use Rattle.gdb_tables.specs.PlacedIn.{ArePlacements, of_object};
 ghost use Rattle.gdb_tables.specs.Sized.{IsScanOfAll};
@@ -64,4 +64,41 @@ fn add_entries<C: ElfClass>(
         }
     }
     Ok(())
+}
+
+/// Why the relocations of an object's units are not read.
+fn of_relocations(object: usize, error: MapError) -> GdbError
+    ensures { result ≡ of_map_error object error }
+{
+    match error {
+        MapError::Elf(error) => GdbError::BadElf(object, error),
+        MapError::NoMemory => GdbError::NoMemory,
+    }
+}
+
+/// The units that the relocations of an object with so many units tell of its sections: of none where it has fewer
+/// than two units, and its relocations are not read.
+fn told_units<C: ElfClass>(
+    alloc: Global,
+    object: usize,
+    file: &File<'_, C>,
+    count: u32,
+) -> Result<HashMap<usize, u32>, GdbError>
+    requires small { length file.now.bytes < 2 ^ 39 }
+    requires held { (us : List CuBoundary) × IsUnitsOf C.class file.now.bytes us × (length us ≡ count) }
+    ensures told { IfOk result (λ told. (us : List CuBoundary) → IsUnitsOf C.class file.now.bytes us → (section : ℕ) → unit_told told section ≡ unit_of_section C.class file.now.is_dynamic file.now.bytes us section) }
+    ensures sound { OnOk result ((us : List CuBoundary) → IsUnitsOf C.class file.now.bytes us → unit_relocation_fault C.class file.now.is_dynamic file.now.bytes us ≡ None) }
+    ensures cause { IfErr result (λ e. (us : List CuBoundary) → IsUnitsOf C.class file.now.bytes us → IsEntriesCause object (unit_relocation_fault C.class file.now.is_dynamic file.now.bytes us) e) }
+{
+    if count < 2 {
+        return Ok(HashMap::new(alloc));
+    }
+    let units = match read_units(alloc, object, file) {
+        Ok(units) => units,
+        Err(error) => return Err(error),
+    };
+    match build_section_cu_map(alloc, file, &units) {
+        Ok(told) => Ok(told),
+        Err(error) => Err(of_relocations(object, error)),
+    }
 }
