@@ -15,3 +15,4 @@ pub mod Counting
 pub mod IndexSizes
 pub mod Misplacing
 pub mod Adjoining
+pub mod Addressing
