@@ -15,4 +15,5 @@ pub mod Counting
 pub mod IndexSizes
 pub mod Misplacing
 pub mod Adjoining
+pub mod Picking
 pub mod Addressing

@@ -1,10 +1,8 @@
-use Rattle.std.proofs.Common.{◌≡◌, ℕ, ◌<◌, List, length, nat_eq, ap, sym, subst, ◌∙◌, arith}
+use Rattle.std.proofs.Common.{◌≡◌, ◌<◌, length, nat_eq, ap, sym, subst, ◌∙◌, arith}
 use Rattle.std.specs.Prelude.{unwrap_or}
-use Rattle.std.specs.HashMap as hash
 use Rattle.std.specs.Map.{lookup}
-use Rattle.gdb_index_format.specs.declared.unit.CuBoundary.{CuBoundary}
 use Rattle.gdb_index_format.specs.Addresses.{section_unit, relocation_fault, unit_relocation_fault}
-use Rattle.gdb_index_format.specs.Objects.{info_bytes, IsUnitsOf}
+use Rattle.gdb_index_format.specs.Objects.{info_bytes}
 use Rattle.gdb_index_format.proofs.ObjectLists.{one_units}
 use Rattle.gdb_sections.specs.UnitSearch.{AreAdjacent}
 use Rattle.gdb_tables.specs.Addresses.{IsEntriesCause}
