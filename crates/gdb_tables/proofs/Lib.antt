@@ -15,3 +15,6 @@ pub mod Counting
 pub mod IndexSizes
 pub mod OneCause
 pub mod Misplacing
+pub mod Adjoining
+pub mod Picking
+pub mod Addressing

@@ -79,7 +79,7 @@ units_step done all place ss i s l is left =
     ∙ ap (λ x. done ++ one_behind_another place x) (sym (ap units_in_scans (front ss i s l is)))
     ∙ left
 
-length-placed : (at : ℕ) (us : List CuBoundary) → length (one_behind_another at us) ≡ length us
+pub length-placed : (at : ℕ) (us : List CuBoundary) → length (one_behind_another at us) ≡ length us
 length-placed at [] = refl
 length-placed at (u ∷ us) = ap suc (length-placed (at + u.length) us)
 

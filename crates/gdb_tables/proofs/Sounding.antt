@@ -70,7 +70,7 @@ section_short c file header b e = chosen _ _ (length file) _ b (part (get (Rattl
   part : (at size : ℕ) (file : List ℕ) → length (take size (drop at file)) ≤ length file
   part at size file = omega (arith, length-take size (drop at file), length-drop at file)
 
-info_short : (c : Class) (file b : List ℕ) (o : Option ℕ) → bytes_of_section c file o ≡ Some b → length b ≤ length file
+pub info_short : (c : Class) (file b : List ℕ) (o : Option ℕ) → bytes_of_section c file o ≡ Some b → length b ≤ length file
 info_short c file b None e = omega (arith, ap length (same e)) where
   same : Some [] ≡ Some b → [] ≡ b
   same e = cc e

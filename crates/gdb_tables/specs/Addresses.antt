@@ -13,6 +13,9 @@ use Rattle.gdb_index_format.specs.declared.unit.CuBoundary.{CuBoundary}
 use Rattle.gdb_index_format.specs.Published.{Object, units_in_objects}
 use Rattle.gdb_index_format.specs.Placed.{has_unit, placed}
 use Rattle.gdb_index_format.specs.Addresses.{unit_of_section, unit_relocation_fault}
+use Rattle.gdb_addresses.specs.declared.error.MapError.{MapError}
+use Rattle.gdb_addresses.specs.declared.error.MapError.TheVariants.{Elf}
+use Rattle.gdb_addresses.specs.declared.error.MapError.TheVariants as maps
 use Rattle.gdb_tables.specs.declared.error.GdbError.{GdbError}
 use Rattle.gdb_tables.specs.declared.error.GdbError.TheVariants.{BadElf, CompressedSection, BadUnit, BadPubnames, TooManyUnits, IndexTooLarge, NoMemory}
 use Rattle.gdb_tables.specs.Files.{bytes_of}
@@ -67,6 +70,10 @@ entries_at c file first units ps = map (entry_at first units) (filter (has_entry
 -- the same of an object with these units
 abbrev pub entries_of : Class → Parsed → ℕ → List CuBoundary → List Placement → List AddressEntry
 entries_of c file first us ps = if has_unit us then entries_at c file.bytes first (unit_of_section c file.is_dynamic file.bytes us) ps else []
+
+abbrev pub of_map_error : ℕ → MapError → GdbError
+of_map_error object (Elf e) = BadElf object e
+of_map_error object maps.NoMemory = NoMemory
 
 -- why the entries of an object are not made: this is wrong with its relocations. Want of memory needs no cause
 abbrev pub IsEntriesCause : ℕ → Option ElfError → GdbError → Type 0

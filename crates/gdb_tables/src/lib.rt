@@ -20,8 +20,10 @@ mod sizing;
 #[cfg(test)]
 mod tests;
 
+pub use addresses::build_address_entries;
 pub use error::GdbError;
 pub use files::scan_objects;
+pub use gdb_addresses::{MapError, build_section_cu_map};
 pub use gdb_index::{
     AddressEntry, BadIndex, CuVector, GdbIndexScanResult, INDEX_VERSION, IndexCounts,
     IndexTooLarge, NameWords, Steps, checked_index_size, compute_hash_table_slots,

@@ -1,4 +1,4 @@
-use Rattle.std.proofs.Common.{◌≡◌, None, ap, ◌∙◌, rules}
+use Rattle.std.proofs.Common.{ap, ◌∙◌}
 use Rattle.std.proofs.lemmas.List.{drop_all}
 use Rattle.gdb_tables.specs.Files.{bytes_of}
 use Rattle.gdb_tables.proofs.Misplacing.{misplaced_from, from_the_first, none_misplaced}
