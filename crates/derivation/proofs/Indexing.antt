@@ -1,7 +1,7 @@
 -- The index that is written is that of the objects.
-use Rattle.std.proofs.Common.{◌≡◌, ◌≢◌, ◌<◌, ℕ, Bool, true, false, Some, List, [], ◌∷◌, length, take, drop, get_or, ◌++◌, subst, ap, sym, ◌∙◌, arith, inl, inr, IsPermutation, IsSortedByKey}
+use Rattle.std.proofs.Common.{◌≡◌, ◌≢◌, ◌<◌, ℕ, Bool, false, Some, List, [], ◌∷◌, length, take, drop, get_or, ◌++◌, subst, ap, sym, ◌∙◌, arith, inl, inr, IsPermutation, IsSortedByKey}
 use Rattle.std.specs.Cmp.Lexicographic.{slice_cmp}
-use Rattle.std.specs.List.{All, Contains, IsDistinct}
+use Rattle.std.specs.List.{Contains, IsDistinct}
 use Rattle.std.specs.Ordering.{nat_cmp}
 use Rattle.std.specs.Str.{bytes_eq}
 use Rattle.std.proofs.Math.ListN.{drop_of_length-le}

@@ -3,4 +3,5 @@ mod Phases
 mod Refusing
 mod Indexing
 mod NoUnits
-pub mod Answering
+mod Composing
+mod Answering

@@ -1,5 +1,5 @@
 -- Objects without a unit: they publish nothing, and have an index of no bytes.
-use Rattle.std.proofs.Common.{◌≡◌, ◌<◌, ℕ, zero, suc, ◌+◌, None, List, [], ◌∷◌, ◌++◌, length, refl, ap, sym, ◌∙◌, subst, arith}
+use Rattle.std.proofs.Common.{◌≡◌, ℕ, ◌+◌, None, List, [], ◌∷◌, ◌++◌, length, refl, ap, sym, ◌∙◌, subst, arith}
 use Rattle.std.specs.List.{flat_map}
 use Rattle.elf_format.specs.Bytes.{le}
 use Rattle.elf_format.specs.Class.{class64}
@@ -9,14 +9,13 @@ use Rattle.gdb_index_format.specs.declared.placement.Placement.{Placement}
 use Rattle.gdb_index_format.specs.declared.unit.CuBoundary.{CuBoundary}
 use Rattle.gdb_index_format.specs.Named.{AnswersAll}
 use Rattle.gdb_index_format.specs.Names.{NameSet}
-use Rattle.gdb_index_format.specs.Objects.{AreObjectsOf}
 use Rattle.gdb_index_format.specs.Probe.{probe}
 use Rattle.gdb_index_format.specs.Published.{Object, Pair, one_behind_another, units_in_objects, units_of_all, pairs_of, published_from, published}
 use Rattle.gdb_index_format.specs.Placed.{placed}
 use Rattle.gdb_index_format.specs.Size.{Counts, IsSize, counts_of}
 use Rattle.gdb_index_format.specs.Units.{index_units}
 use Rattle.gdb_index_format.proofs.ObjectLists.{objects_are_one_lem}
-use Rattle.gdb_tables.specs.Addresses.{fault_from, first_relocation_fault}
+use Rattle.gdb_tables.specs.Addresses.{fault_from}
 use Rattle.gdb_tables.specs.Files.{bytes_of}
 use Rattle.gdb_tables.specs.Sized.{SizesIndex}
 use Rattle.derivation.specs.Derived.{ListsNames, IsIndexOf}

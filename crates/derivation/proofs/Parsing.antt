@@ -29,7 +29,7 @@ more_parsed buffer spans k done items file below held one pushed =
 pub more_sound : (expected : Architecture) (buffer : List ℕ) (spans : List Span) (k : ℕ) → k < length spans → AreObjects class64 expected (objects_of buffer (take k spans)) → None ≡ object_fault class64 expected (bytes_of buffer (get_or spans k no_span)) → AreObjects class64 expected (objects_of buffer (take (k + 1) spans))
 more_sound expected buffer spans k below done none =
     subst (AreObjects class64 expected) (sym (next_objects buffer spans k below))
-        (All-push (λ file. object_fault class64 expected file ≡ None) (objects_of buffer (take k spans)) (bytes_of buffer (get_or spans k no_span)) done (sym none))
+    (All-push (λ file. object_fault class64 expected file ≡ None) (objects_of buffer (take k spans)) (bytes_of buffer (get_or spans k no_span)) done (sym none))
 
 there_at : {X Y : Type 0} (f : X → Y) (xs : List X) (k : ℕ) (d : X) → k < length xs → slice_get (map f xs) k ≡ Some (f (get_or xs k d))
 there_at f [] k d below = absurd (omega arith)

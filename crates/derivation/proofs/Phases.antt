@@ -1,8 +1,7 @@
 -- An input is refused for one cause, that of the first condition which does not hold; a valid one for none.
 use Rattle.gdb_tables.specs.Misplaced.{misplaced}
-use Rattle.std.proofs.Common.{◌≡◌, ◌≢◌, ◌⊎◌, ℕ, ◌<◌, [], Option, false, true, not, Some, None, List, length, take, get_or, refl, ap, sym, ◌∙◌, subst, arith, inl, inr}
-use Rattle.std.specs.Prelude.{slice_get, position, unwrap_or}
-use Rattle.std.specs.List.{All}
+use Rattle.std.proofs.Common.{◌≡◌, ◌⊎◌, ℕ, ◌<◌, [], Option, false, not, Some, None, List, length, take, get_or, ap, sym, ◌∙◌, subst, arith, inl, inr}
+use Rattle.std.specs.Prelude.{position, unwrap_or}
 use Rattle.std.proofs.lemmas.Bool.{false≢true, cases_order}
 use Rattle.std.proofs.lemmas.Bool.Decides.{nat_tests}
 use Rattle.std.proofs.lemmas.List.{get_or-take, length-take-le}
@@ -11,18 +10,15 @@ use Rattle.std.proofs.lemmas.Option.{get_or_from_slice_get, slice_get_within}
 use Rattle.elf_format.specs.declared.architecture.Architecture.{Architecture}
 use Rattle.elf_format.specs.declared.error.ElfError.{ElfError}
 use Rattle.elf_format.specs.declared.index.Span.{Span}
-use Rattle.elf_format.specs.Class.{Class, class64}
+use Rattle.elf_format.specs.Class.{class64}
 use Rattle.elf_format.specs.Span.{IsInside, AreInside, is_inside}
 use Rattle.elf_view.specs.Parsed.{Parsed}
-use Rattle.gdb_index_format.specs.Objects.{AreObjectsOf}
 use Rattle.gdb_index_format.specs.Published.{Object}
 use Rattle.gdb_index_format.proofs.ObjectLists.{objects_are_one_lem}
 use Rattle.gdb_tables.specs.Addresses.{first_relocation_fault}
 use Rattle.gdb_tables.specs.Files as files
-use Rattle.gdb_tables.specs.declared.error.GdbError.{GdbError}
 use Rattle.gdb_tables.proofs.Misplacing.{placed_none}
 use Rattle.gdb_tables.proofs.OneCause.{one_size_cause, no_size_cause}
-use Rattle.sframe_format.specs.declared.fault.SframeFault.{SframeFault}
 use Rattle.sframe_order.proofs.OneCause.{one_cause}
 use Rattle.sframe_order.proofs.OneResult.{only_memory}
 use Rattle.derivation.specs.declared.error.DeriveError.{DeriveError}

@@ -94,7 +94,6 @@ fn derive_phases<'a>(
 /// comes exactly where its cause is the first, in this order; no table is given then. `NoMemory` may come for any input.
 ///
 /// The buffer has fewer than 2^39 bytes, and there are fewer than 2^24 objects. Spans may overlap.
-#[tactic(auto, using(crate::proofs::Answering::refused_by, crate::proofs::Answering::complete_by))]
 pub fn derive_tables<'a>(
     alloc: Global,
     expected: Architecture,

@@ -37,10 +37,16 @@ pub enum DeriveError {
     /// The range of this place is reversed or ends beyond the SFrame bytes.
     BadRange(usize),
     /// The contribution at this offset of the SFrame bytes has this magic, which is another.
-    BadMagicBytes { value: u16, offset: usize },
+    BadMagicBytes {
+        value: u16,
+        offset: usize,
+    },
     /// A part of a contribution ends beyond it: at the contribution's offset, or at its descriptor's for the rows of
     /// a function.
-    SframeTruncated { kind: TruncatedKind, offset: usize },
+    SframeTruncated {
+        kind: TruncatedKind,
+        offset: usize,
+    },
     /// More is needed than the limit allows: of bytes of the section or of the merged contribution, or of rows.
     SframeTooLarge {
         kind: LargeKind,
@@ -48,7 +54,10 @@ pub enum DeriveError {
         limit: u64,
     },
     /// The start value of the function of this place in the new order does not fit 32 bits.
-    SframeAddressRange { function: usize, value: i128 },
+    SframeAddressRange {
+        function: usize,
+        value: i128,
+    },
     /// Memory was wanted and not had.
     NoMemory,
 }

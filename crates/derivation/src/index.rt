@@ -24,7 +24,7 @@ use elf_records64::Class64;
 use elf_view::File;
 use gdb_index_format::{AddressEntry, CuBoundary, NameWords, Placement};
 use gdb_tables::{
-    GdbIndexScanResult, INDEX_VERSION, compute_gdb_index_size,
+    GdbIndexScanResult, INDEX_VERSION, build_address_entries, compute_gdb_index_size,
     write_gdb_index,
 };
 use std::alloc::{AllocError, Global};
@@ -114,7 +114,14 @@ fn tables_of_scan<'a>(
     ensures relocated { OnOk result (AreRelocated files.now) }
     ensures cause { IfErr result (λ e. (e ≡ NoMemory) ⊎ IsUnrelocated files.now e) }
 {
-    Err(DeriveError::NoMemory)
+    let addresses = match build_address_entries(alloc, files, &scan, placements) {
+        Ok(addresses) => addresses,
+        Err(error) => return Err(of_gdb_error(error)),
+    };
+    match written(alloc, size, scan, &addresses) {
+        Ok(tables) => Ok(tables),
+        Err(_) => Err(DeriveError::NoMemory),
+    }
 }
 
 /// The index of the objects. Without a unit it has no bytes.

@@ -1,4 +1,4 @@
-use Rattle.std.proofs.Common.{rules, ◌≡◌, ℕ, List, length, arith}
+use Rattle.std.proofs.Common.{rules, ◌≡◌, length, arith}
 use Rattle.std.proofs.lemmas.Grind.{common_steps}
 use Rattle.derivation.proofs.Indexing.{same_buffer, answers_again}
 use Rattle.derivation.proofs.index.index_bytes.Goals as goal

@@ -6,4 +6,4 @@ use Rattle.derivation.proofs.index.written.Goals as goal
 pub returns-clause-names : goal.returns-clause-names
 returns-clause-names c =
     subst (λ (ns : List Named). IsPermutation ns (all_named c.sort_names.new.names.items)) c.into_parts-units.ensures.names
-        (IsPermutation-map named c.into_parts-units.result.1.items c.sort_names.new.names.items c.sort_names.ensures.same)
+    (IsPermutation-map named c.into_parts-units.result.1.items c.sort_names.new.names.items c.sort_names.ensures.same)

@@ -1,0 +1,79 @@
+-- The phases of an input over its parsed objects, put together.
+use Rattle.std.proofs.Common.{◌≡◌, ◌⊎◌, ◌∙◌, ◌^◌, ◌<◌, ◌≤◌, ◌-◌, drop, ℕ, zero, suc, Some, List, [], ◌∷◌, length, refl, ap, sym, subst, arith, inl, inr}
+use Rattle.std.proofs.lemmas.List.{length-take, length-drop}
+use Rattle.std.specs.List.{All}
+use Rattle.elf_format.specs.declared.index.Span.{Span}
+use Rattle.elf_format.specs.Class.{class64}
+use Rattle.elf_format.specs.Span as spans
+use Rattle.elf_view.specs.Parsed.{Parsed}
+use Rattle.gdb_tables.specs.Files.{bytes_of, ArePlacedIn}
+use Rattle.gdb_tables.specs.Misplaced.{misplaced}
+use Rattle.gdb_tables.specs.Sized.{IsIndexable}
+use Rattle.sframe_format.specs.Valid as frames
+use Rattle.derivation.specs.declared.error.DeriveError.{DeriveError}
+use Rattle.derivation.specs.declared.error.DeriveError.TheVariants.{BadPlacement, NoMemory}
+use Rattle.derivation.specs.Input.{Input}
+use Rattle.derivation.specs.Objects.{objects_of, parsed_of, index_version}
+use Rattle.derivation.specs.Valid.{HasSpans, HasObjects, HasPlacements, HasIndex, AreRelocated, HasRelocations, IsValid}
+use Rattle.derivation.specs.Cause.{IsUnsized, IsUnrelocated, IsUnordered, HasCause, in_placements, in_index, in_relocations, in_sframe}
+
+bytes_again : (buffer : List ℕ) (list : List Span) → bytes_of (parsed_of buffer list) ≡ objects_of buffer list
+bytes_again buffer [] = refl
+bytes_again buffer (span ∷ list) = ap (λ (rest : List (List ℕ)). spans.bytes_of buffer span ∷ rest) (bytes_again buffer list)
+
+-- the objects' bytes, by the objects that were parsed
+bytes_are : (input : Input) (parsed : List Parsed) → parsed ≡ parsed_of input.buffer input.objects → bytes_of parsed ≡ objects_of input.buffer input.objects
+bytes_are input parsed same = ap (λ (list : List Parsed). bytes_of list) same ∙ bytes_again input.buffer input.objects
+
+short : (buffer : List ℕ) (span : Span) → length (spans.bytes_of buffer span) ≤ length buffer
+short buffer span = omega (arith, length-take (span.stop - span.start) (drop span.start buffer), length-drop span.start buffer)
+
+short_files : (buffer : List ℕ) (list : List Span) → length buffer < 2 ^ 39 → All (λ file. length file.bytes < 2 ^ 39) (parsed_of buffer list)
+short_files buffer [] small k d below = absurd (omega arith)
+short_files buffer (span ∷ list) small zero d below = let le = short buffer span in omega (arith, le, small)
+short_files buffer (span ∷ list) small (suc k) d below = short_files buffer list small k d (omega arith)
+
+pub small_files : (buffer : List ℕ) (list : List Span) (parsed : List Parsed) → parsed ≡ parsed_of buffer list → length buffer < 2 ^ 39 → All (λ file. length file.bytes < 2 ^ 39) parsed
+small_files buffer list parsed same small = subst (λ (fs : List Parsed). All (λ file. length file.bytes < 2 ^ 39) fs) (sym same) (short_files buffer list small)
+
+placed_at : (input : Input) (parsed : List Parsed) → parsed ≡ parsed_of input.buffer input.objects → ArePlacedIn class64 (bytes_of parsed) input.placements → HasPlacements input
+placed_at input parsed same placed = subst (λ (files : List (List ℕ)). ArePlacedIn class64 files input.placements) (bytes_are input parsed same) placed
+
+indexed_at : (input : Input) (parsed : List Parsed) → parsed ≡ parsed_of input.buffer input.objects → IsIndexable index_version class64 (bytes_of parsed) input.placements → HasIndex input
+indexed_at input parsed same indexable = subst (λ (files : List (List ℕ)). IsIndexable index_version class64 files input.placements) (bytes_are input parsed same) indexable
+
+pub misplaced_cause : (input : Input) (parsed : List Parsed) (place : ℕ) → parsed ≡ parsed_of input.buffer input.objects → HasSpans input → HasObjects input → Some place ≡ misplaced class64 (bytes_of parsed) input.placements → HasCause input (BadPlacement place)
+misplaced_cause input parsed place same inside sound found =
+    in_placements inside sound (place, refl, subst (λ (files : List (List ℕ)). misplaced class64 files input.placements ≡ Some place) (bytes_are input parsed same) (sym found))
+
+pub index_cause : (input : Input) (parsed : List Parsed) (e : DeriveError) → parsed ≡ parsed_of input.buffer input.objects → HasSpans input → HasObjects input → ArePlacedIn class64 (bytes_of parsed) input.placements
+    → (e ≡ NoMemory) ⊎ (IsUnsized (bytes_of parsed) input.placements e ⊎ (IsIndexable index_version class64 (bytes_of parsed) input.placements × IsUnrelocated parsed e)) → (e ≡ NoMemory) ⊎ HasCause input e
+index_cause input parsed e same inside sound placed cause =
+    elim cause [
+      | inl memory ↦ inl memory
+      | inr other ↦ inr (elim other [
+        | inl unsized ↦ in_index inside sound (placed_at input parsed same placed) (subst (λ (files : List (List ℕ)). IsUnsized files input.placements e) (bytes_are input parsed same) unsized)
+        | inr unrelocated ↦ in_relocations inside sound (placed_at input parsed same placed) (indexed_at input parsed same unrelocated.0) (subst (λ (fs : List Parsed). IsUnrelocated fs e) same unrelocated.1)
+      ])
+    ]
+
+relocated_at : (input : Input) (parsed : List Parsed) → parsed ≡ parsed_of input.buffer input.objects → AreRelocated parsed → HasRelocations input
+relocated_at input parsed same relocated = subst (λ (fs : List Parsed). AreRelocated fs) same relocated
+
+pub valid_input : (input : Input) (parsed : List Parsed) → parsed ≡ parsed_of input.buffer input.objects → HasSpans input → HasObjects input → ArePlacedIn class64 (bytes_of parsed) input.placements → IsIndexable index_version class64 (bytes_of parsed) input.placements → AreRelocated parsed → frames.IsValid input.sframe input.ranges → IsValid input
+valid_input input parsed same inside sound placed indexable relocated ordered = record {
+  spans = inside;
+  objects = sound;
+  placements = placed_at input parsed same placed;
+  index = indexed_at input parsed same indexable;
+  relocations = relocated_at input parsed same relocated;
+  sframe = ordered;
+}
+
+pub sframe_cause : (input : Input) (parsed : List Parsed) (e : DeriveError) → parsed ≡ parsed_of input.buffer input.objects → HasSpans input → HasObjects input → ArePlacedIn class64 (bytes_of parsed) input.placements → IsIndexable index_version class64 (bytes_of parsed) input.placements → AreRelocated parsed
+    → (e ≡ NoMemory) ⊎ IsUnordered input.sframe input.ranges e → (e ≡ NoMemory) ⊎ HasCause input e
+sframe_cause input parsed e same inside sound placed indexable relocated cause =
+    elim cause [
+      | inl memory ↦ inl memory
+      | inr unordered ↦ inr (in_sframe inside sound (placed_at input parsed same placed) (indexed_at input parsed same indexable) (relocated_at input parsed same relocated) unordered)
+    ]
