@@ -1,2 +1,5 @@
+pub mod LayoutLemmas
 pub mod LineLemmas
+pub mod NumberLemmas
 pub mod ReportLemmas
+pub mod WordLemmas

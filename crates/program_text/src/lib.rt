@@ -5,6 +5,9 @@
 
 mod command;
 mod layout;
+mod line;
+mod number;
+mod pieces;
 mod report;
 
 pub use command::{Command, read_command};
