@@ -6,7 +6,7 @@ use Rattle.std.specs.Char.{is_ascii_digit}
 use Rattle.std.specs.Str.{all_ascii_digits}
 use Rattle.std.specs.Str.Parse.{ParsesUnsigned}
 use Rattle.std.proofs.Math.Bool.{and-true}
-use Rattle.std.proofs.lemmas.Bool.{false_from_ne_true, ltb-true, lt-ltb, eqb-true}
+use Rattle.std.proofs.lemmas.Bool.{ltb-true, lt-ltb, eqb-true, ne_eqb}
 use Rattle.std.proofs.lemmas.List.{length-take}
 use Rattle.std.proofs.lemmas.Str.Parse.{IsNumeralModel, numerals_by_weight, tells_all_ascii_digits, parse_plain}
 use Rattle.program_text.specs.Number.{value_of, is_decimal, number_of}
@@ -20,7 +20,7 @@ pub decimal_is : (word : List ℕ) → 0 < length word → (get_or word 0 0 ≡ 
 decimal_is [] some short = absurd (omega arith)
 decimal_is (digit ∷ []) some short = sym (and-true (is_ascii_digit digit))
 decimal_is (digit ∷ (next ∷ digits)) some short =
-    ap (λ b. not b && all_ascii_digits (digit ∷ next ∷ digits)) (false_from_ne_true (digit == 48) (λ same. absurd (omega (arith, short (eqb-true digit 48 same)))))
+    ap (λ b. not b && all_ascii_digits (digit ∷ next ∷ digits)) (ne_eqb digit 48 (λ same. absurd (omega (arith, short same))))
 
 by_tests : {E : Type 0} (r : Result ℕ E) (all small : Bool) (n v : ℕ) → nat_lt v (2 ^ 64) ≡ small → 0 < n → OkIff r ((all ≡ true) × (0 < n) × (v < 2 ^ 64)) v → result_ok r ≡ (if all && small then Some v else None)
 by_tests (Ok x) all small n v is some (good, same) =
