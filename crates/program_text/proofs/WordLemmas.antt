@@ -1,8 +1,9 @@
 -- A line whose words go on behind its last number is wrong.
 use Rattle.std.proofs.Common.{◌≡◌, ◌==◌, ℕ, List, [], ◌∷◌, Bool, true, false, map, refl, ap, Bor, option_map, is_some, if◌then◌else◌}
 use Rattle.std.specs.Prelude.{Option, Some, None}
-use Rattle.program_text.specs.Lines.{lengthen, words_in, words_after}
+use Rattle.program_text.specs.Lines.{lengthen, words_in}
 use Rattle.program_text.specs.Number.{number_of}
+use Rattle.program_text.specs.Layout.{numbers_after}
 
 -- some pieces, of which there is a first
 pub record AreSome (pieces : List (List ℕ)) : Type 0 where
@@ -29,7 +30,7 @@ pub record GoOn (numbers : List (Option ℕ)) : Type 0 where
   pub others : List (Option ℕ)
   pub are : numbers ≡ first ∷ others
 
-pub more_words : (words : Option (Bor (List ℕ))) → is_some words ≡ true → GoOn (map number_of (words_after (option_map (λ w. w.now) words)))
+pub more_words : (words : Option (Bor (List ℕ))) → is_some words ≡ true → GoOn (numbers_after (option_map (λ w. w.now) words))
 more_words None is = absurd (cc)
 more_words (Some line) is =
     let word = some_word line.now in

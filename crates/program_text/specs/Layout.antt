@@ -10,7 +10,7 @@ use Rattle.program_text.specs.declared.line.Line.TheVariants.{Skipped, Place, Ra
 use Rattle.program_text.specs.declared.layout.LayoutError.{LayoutError}
 use Rattle.program_text.specs.declared.layout.LayoutError.TheVariants.{BadLine, NoMemory}
 use Rattle.program_text.specs.Command.{is_word}
-use Rattle.program_text.specs.Lines.{lines_of, words_in}
+use Rattle.program_text.specs.Lines.{lines_of, words_in, words_after}
 use Rattle.program_text.specs.Number.{number_of}
 
 -- where sections were put, the ranges of the SFrame bytes, and the address of the first of these bytes
@@ -18,6 +18,10 @@ pub record Said : Type 0 where
   pub placements : List Placement
   pub ranges : List Span
   pub base : ℕ
+
+-- the numbers that the words behind a word write
+abbrev pub numbers_after : Option (List ℕ) → List (Option ℕ)
+numbers_after rest = map number_of (words_after rest)
 
 -- the first of some words' numbers
 abbrev pub first_number : List (Option ℕ) → Option ℕ

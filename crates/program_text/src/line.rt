@@ -1,11 +1,10 @@
 //! One line of the layout: `place OBJECT SECTION ADDRESS SIZE`, `range START STOP` or `base ADDRESS`.
 //!
 //! Its words stand between single spaces, and its numbers are decimal. An empty line and a line that begins with `#` are skipped.
-ghost use Rattle.std.specs.Prelude.{◌≡◌, ◌∷◌, map, option_map, MatchOption};
+ghost use Rattle.std.specs.Prelude.{◌≡◌, ◌∷◌, option_map, MatchOption};
 ghost use Rattle.std.specs.Option.{unwrap_or};
-ghost use Rattle.program_text.specs.Layout.{first_number, place_of, range_of, base_of, words_say, line_of};
-ghost use Rattle.program_text.specs.Lines.{words_in, words_after};
-ghost use Rattle.program_text.specs.Number.{number_of};
+ghost use Rattle.program_text.specs.Layout.{numbers_after, first_number, place_of, range_of, base_of, words_say, line_of};
+ghost use Rattle.program_text.specs.Lines.{words_in};
 
 use crate::number::read_number;
 use crate::pieces::split_word;
@@ -30,9 +29,9 @@ pub enum Line {
 /// The number that is the first of some words, and the words behind it; none where there is no word, or it is no number.
 fn next_number(words: Option<&[u8]>) -> Option<(u64, Option<&[u8]>)>
     ensures { MatchOption result
-        (first_number (map number_of (words_after (option_map (λ w. w.now) words.entry))) ≡ None)
-        (λ next. map number_of (words_after (option_map (λ w. w.now) words.entry))
-        ≡ Some next.0 ∷ map number_of (words_after (option_map (λ w. w.now) next.1))) }
+        (first_number (numbers_after (option_map (λ w. w.now) words.entry)) ≡ None)
+        (λ next. numbers_after (option_map (λ w. w.now) words.entry)
+        ≡ Some next.0 ∷ numbers_after (option_map (λ w. w.now) next.1)) }
 {
     let (word, rest) = split_word(words?);
     let number = read_number(word)?;
@@ -41,7 +40,7 @@ fn next_number(words: Option<&[u8]>) -> Option<(u64, Option<&[u8]>)>
 
 /// Reads what stands behind `place`: object, section, address and size.
 fn read_place(words: Option<&[u8]>) -> Option<Line>
-    ensures { unwrap_or result Line.Wrong ≡ place_of (map number_of (words_after (option_map (λ w. w.now) words.entry))) }
+    ensures { unwrap_or result Line.Wrong ≡ place_of (numbers_after (option_map (λ w. w.now) words.entry)) }
 {
     let (object, words) = next_number(words)?;
     let (section, words) = next_number(words)?;
@@ -60,7 +59,7 @@ fn read_place(words: Option<&[u8]>) -> Option<Line>
 
 /// Reads what stands behind `range`: start and stop.
 fn read_range(words: Option<&[u8]>) -> Option<Line>
-    ensures { unwrap_or result Line.Wrong ≡ range_of (map number_of (words_after (option_map (λ w. w.now) words.entry))) }
+    ensures { unwrap_or result Line.Wrong ≡ range_of (numbers_after (option_map (λ w. w.now) words.entry)) }
 {
     let (start, words) = next_number(words)?;
     let (stop, words) = next_number(words)?;
@@ -75,7 +74,7 @@ fn read_range(words: Option<&[u8]>) -> Option<Line>
 
 /// Reads what stands behind `base`: an address.
 fn read_base(words: Option<&[u8]>) -> Option<Line>
-    ensures { unwrap_or result Line.Wrong ≡ base_of (map number_of (words_after (option_map (λ w. w.now) words.entry))) }
+    ensures { unwrap_or result Line.Wrong ≡ base_of (numbers_after (option_map (λ w. w.now) words.entry)) }
 {
     let (address, words) = next_number(words)?;
     if words.is_some() {
