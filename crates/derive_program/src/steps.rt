@@ -65,6 +65,7 @@ fn derive_read<S: Sink>(alloc: Global, machine: Architecture, read: &FilesRead, 
     let layout = match read_layout(alloc, &read.layout) {
         Ok(layout) => layout,
         Err(LayoutError::BadLine(line)) => return Ran::BadLayout(line),
+        Err(LayoutError::NoMemory) => return Ran::NoMemory,
     };
     match derive_tables(
         alloc,

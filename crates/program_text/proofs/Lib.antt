@@ -1,2 +1,6 @@
+pub mod LayoutLemmas
 pub mod LineLemmas
+pub mod NumberLemmas
+pub mod NumberTexts
 pub mod ReportLemmas
+pub mod WordLemmas

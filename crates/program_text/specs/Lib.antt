@@ -1,4 +1,5 @@
 pub mod Command
 pub mod Layout
 pub mod Lines
+pub mod Number
 pub mod Report

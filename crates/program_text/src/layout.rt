@@ -1,14 +1,17 @@
-//! The layout: a text of lines, numbered from 1, that says where a linker has put sections.
+//! The layout: a text of lines, numbered from 1, in which a linker says where sections have been put.
 //!
-//! An empty line and a line that begins with `#` are skipped. Every other line is wrong. The last line may lack its line feed.
-ghost use Rattle.std.specs.Prelude.{◌≡◌, ◌∷◌, ◌<◌, ℕ, length, MatchResult};
-ghost use Rattle.program_text.specs.Layout.{line_of, layout_of};
-ghost use Rattle.program_text.specs.Lines.{lines_of};
+//! An empty line and a line that begins with `#` are skipped. The others are `place OBJECT SECTION ADDRESS SIZE`, `range START STOP` or
+//! `base ADDRESS`, the last at most once. The last line may lack its line feed.
+ghost use Rattle.std.specs.Prelude.{◌≡◌, ◌++◌, false, true, is_some, IfErr, OnOk, MatchResult};
+ghost use Rattle.std.specs.Option.{option_or};
+ghost use Rattle.program_text.specs.declared.layout.LayoutError.TheVariants.{NoMemory};
+ghost use Rattle.program_text.specs.Layout.{placements_in, ranges_in, base_in, is_wrong, IsWrongAt, layout_of, IsErrorOf};
 
+use crate::line::{Line, read_line};
+use crate::pieces::split_line;
 use elf_format::Span;
 use gdb_index_format::Placement;
-use memchr::memchr;
-use std::alloc::Global;
+use std::alloc::{AllocError, AllocFailed, Global};
 
 /// What a layout says.
 #[derive(Debug, Drop)]
@@ -26,56 +29,85 @@ pub struct Layout {
 pub enum LayoutError {
     /// The line of this number, from 1, is wrong, and no line before it is.
     BadLine(u64),
+    /// There was no memory for the placements or the ranges.
+    NoMemory,
 }
 
-/// What one line says.
-#[derive(Clone, Copy, Debug, PartialEq, Eq)]
-enum Line {
-    Skipped,
-    Wrong,
+impl From<AllocError> for LayoutError {
+    ghost from_gives = { λ _ e. e ≡ NoMemory };
+
+    fn from(_: AllocError) -> Self {
+        LayoutError::NoMemory
+    }
 }
 
-/// Reads one line, without its line feed.
-fn read_line(line: &[u8]) -> Line
-    ensures { result ≡ line_of line.now }
+impl<T: Drop> From<AllocFailed<T>> for LayoutError {
+    ghost from_gives = { λ _ e. e ≡ NoMemory };
+
+    fn from(_: AllocFailed<T>) -> Self {
+        LayoutError::NoMemory
+    }
+}
+
+/// What the lines so far say.
+#[derive(Drop)]
+struct Said {
+    placements: Vec<Placement>,
+    ranges: Vec<Span>,
+    base: Option<u64>,
+}
+
+/// Adds what the line of this number says.
+fn add_line(said: &mut Said, number: u64, line: Line) -> Result<(), LayoutError>
+    ensures right { OnOk result (is_wrong (is_some said.old.base) line ≡ false) }
+    ensures placements { OnOk result (said.new.placements.items ≡ said.old.placements.items ++ placements_in line) }
+    ensures ranges { OnOk result (said.new.ranges.items ≡ said.old.ranges.items ++ ranges_in line) }
+    ensures base { OnOk result (said.new.base ≡ option_or said.old.base (base_in line)) }
+    ensures wrong { IfErr result (λ e. IsWrongAt number (is_wrong (is_some said.old.base) line) e) }
 {
     match line {
-        [] | [b'#', ..] => Line::Skipped,
-        _ => Line::Wrong,
+        Line::Skipped => Ok(()),
+        Line::Place(placement) => {
+            said.placements.push(placement)?;
+            Ok(())
+        }
+        Line::Range(range) => {
+            said.ranges.push(range)?;
+            Ok(())
+        }
+        Line::Base(address) => {
+            if said.base.is_some() {
+                return Err(LayoutError::BadLine(number));
+            }
+            said.base = Some(address);
+            Ok(())
+        }
+        Line::Wrong => Err(LayoutError::BadLine(number)),
     }
 }
 
-/// The first line of a text that is not empty, and what follows its line feed.
-fn split_line(text: &[u8]) -> (&[u8], &[u8])
-    requires { 0 < length text.now }
-    ensures lines { lines_of text.now ≡ result.0.now ∷ lines_of result.1.now }
-    ensures shorter { length result.1.now < length text.now }
-{
-    match memchr(b'\n', text) {
-        Some(end) => (&text[..end], &text[end + 1..]),
-        None => (text, &[]),
-    }
-}
-
-/// Reads a layout.
+/// Reads a layout. The error is that of its first wrong line; want of memory may be answered for any text that says something.
 pub fn read_layout(alloc: Global, text: &[u8]) -> Result<Layout, LayoutError>
     ensures { MatchResult result
         (λ l. layout_of text.now ≡ Ok (record { placements = l.placements.items; ranges = l.ranges.items; base = l.base }))
-        (λ e. (number : ℕ) × (e ≡ LayoutError.BadLine number) × (layout_of text.now ≡ Err number)) }
+        (λ e. IsErrorOf text.now e) }
 {
+    let mut said = Said {
+        placements: Vec::new(alloc),
+        ranges: Vec::new(alloc),
+        base: None,
+    };
     let mut rest = text;
     let mut number = 0u64;
     while !rest.is_empty() {
         number += 1;
         let (line, after) = split_line(rest);
-        if read_line(line) == Line::Wrong {
-            return Err(LayoutError::BadLine(number));
-        }
+        add_line(&mut said, number, read_line(line))?;
         rest = after;
     }
     Ok(Layout {
-        placements: Vec::new(alloc),
-        ranges: Vec::new(alloc),
-        base: 0,
+        placements: said.placements,
+        ranges: said.ranges,
+        base: said.base.unwrap_or(0),
     })
 }

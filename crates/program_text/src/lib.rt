@@ -4,10 +4,15 @@
 #![tactic(auto)]
 
 mod command;
+mod laws;
 mod layout;
+mod line;
+mod number;
+mod pieces;
 mod report;
 
 pub use command::{Command, read_command};
+pub use laws::{numbers_have_one_text, small_layouts};
 pub use layout::{Layout, LayoutError, read_layout};
 pub use report::report_text;
 

@@ -1,6 +1,6 @@
 use super::*;
-use elf_format::Architecture;
-use gdb_index_format::{CuBoundary, NameWords};
+use elf_format::{Architecture, Span};
+use gdb_index_format::{CuBoundary, NameWords, Placement};
 use sframe_format::SframeOutcome;
 use std::alloc::Global;
 use std::test::Fail;
@@ -47,16 +47,45 @@ fn good_words(rt: HostRuntime) -> Result<(), Fail> {
 }
 
 #[test]
-fn layouts(rt: HostRuntime) -> Result<(), Fail> {
+fn wrong_layouts(rt: HostRuntime) -> Result<(), Fail> {
     let alloc = rt.alloc();
     for (text, wrong) in [
         ("", None),
         ("\n# a comment\n\n#", None),
         ("place 0 3 4096", Some(LayoutError::BadLine(1))),
         ("\n#\n \n", Some(LayoutError::BadLine(3))),
+        ("base 1\nbase 1\nx\n", Some(LayoutError::BadLine(2))),
+        ("range 0 +1", Some(LayoutError::BadLine(1))),
     ] {
         assert_eq!(rt; read_layout(alloc, text.as_bytes()).err(), wrong);
     }
+    Ok(())
+}
+
+#[test]
+fn a_layout(rt: HostRuntime) -> Result<(), Fail> {
+    let alloc = rt.alloc();
+    let text = "range 0 74\nplace 0 3 4096 16\nbase 18446744073709551615\nrange 74 148";
+    let layout = read_layout(alloc, text.as_bytes()).expect(&rt, "a good layout");
+    let placed = Placement {
+        object: 0,
+        section: 3,
+        address: 4096,
+        size: 16,
+    };
+    assert_eq!(rt; layout.placements.as_slice(), [placed].as_slice());
+    assert_eq!(rt;
+        layout.ranges.as_slice(),
+        [
+            Span { start: 0, stop: 74 },
+            Span {
+                start: 74,
+                stop: 148
+            }
+        ]
+        .as_slice()
+    );
+    assert_eq!(rt; layout.base, u64::MAX);
     Ok(())
 }
 
