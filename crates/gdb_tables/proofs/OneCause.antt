@@ -1,5 +1,5 @@
 -- What is refused is refused for one cause, and what is sound for none.
-use Rattle.std.proofs.Common.{◌≡◌, ◌≢◌, ℕ, zero, suc, ◌<◌, ◌^◌, List, [], ◌∷◌, ◌++◌, length, take, Option, Some, None, Result, Ok, Err, IfErr, refl, sym, ap, subst, ◌∙◌, arith, inl, inr}
+use Rattle.std.proofs.Common.{◌≡◌, ◌≢◌, ◌⊎◌, ℕ, zero, suc, ◌<◌, ◌^◌, List, [], ◌∷◌, ◌++◌, length, take, Option, Some, None, Result, Ok, Err, IfErr, refl, sym, ap, subst, ◌∙◌, arith, inl, inr}
 use Rattle.std.specs.Prelude.{slice_get}
 use Rattle.std.proofs.lemmas.Bool.{cases_lt}
 use Rattle.elf_format.specs.declared.error.ElfError.TheVariants.{SectionData}
@@ -20,9 +20,11 @@ use Rattle.gdb_index_format.proofs.ObjectLists.{objects_are_one_lem}
 use Rattle.gdb_index_format.proofs.Sizing.{sizes_are_one_lem}
 use Rattle.gdb_tables.specs.declared.error.GdbError.{GdbError}
 use Rattle.gdb_tables.specs.declared.error.GdbError.TheVariants.{BadElf, CompressedSection, BadUnit, BadPubnames, TooManyUnits, IndexTooLarge, NoMemory}
-use Rattle.gdb_tables.specs.Cause.{IsUnitCause, IsSetsCause, IsSectionCause, leaves, no_sets, FailsInNames, IsScanCause, compressed, in_units, in_names, no_memory, IsOnlyMemory}
+use Rattle.gdb_tables.specs.Cause.{IsUnitCause, IsSetsCause, IsSectionCause, leaves, no_sets, FailsInNames, IsScanCause, compressed, in_units, in_names, no_memory, IsRefusedFor, IsOnlyMemory}
 use Rattle.gdb_tables.specs.Files as files_spec
-use Rattle.gdb_tables.specs.Files.{ArePlain, FirstBadObject, IsFilesCause}
+use Rattle.gdb_tables.specs.Files.{ArePlain, FirstBadObject, IsFilesCause, ScansObjects}
+use Rattle.gdb_tables.specs.Scan.{ObjectScan}
+use Rattle.gdb_tables.specs.Scanned.{ScansObject}
 use Rattle.gdb_tables.specs.Sized as sized_spec
 use Rattle.gdb_tables.specs.Sized.{SizesIndex, IsIndexable, IsSizeCause, in_object, too_many, too_large}
 use Rattle.gdb_tables.specs.Laws.{HasOneScanCause, HasOneFilesCause, HasOneSizeCause, IndexableHasNoCause}
@@ -36,6 +38,26 @@ memory_is (BadPubnames i s) only = absurd only
 memory_is (TooManyUnits n) only = absurd only
 memory_is (IndexTooLarge n) only = absurd only
 memory_is NoMemory only = refl
+
+memory_or_not : (e : GdbError) → (e ≡ NoMemory) ⊎ (e ≢ NoMemory)
+memory_or_not (BadElf i kind) = inr (λ h. cc)
+memory_or_not (CompressedSection i s) = inr (λ h. cc)
+memory_or_not (BadUnit i offset fault) = inr (λ h. cc)
+memory_or_not (BadPubnames i s) = inr (λ h. cc)
+memory_or_not (TooManyUnits n) = inr (λ h. cc)
+memory_or_not (IndexTooLarge n) = inr (λ h. cc)
+memory_or_not NoMemory = inl refl
+
+-- of causes that are one, the one that is told is the one that is there
+told : (P : GdbError → Type 0) (f e : GdbError) → ((x y : GdbError) → P x → P y → x ≢ NoMemory → y ≢ NoMemory → x ≡ y) → P f → P e → e ≢ NoMemory → (f ≡ e) ⊎ (f ≡ NoMemory)
+told P f e one found cause some = elim (memory_or_not f) [
+  | inl memory ↦ inr memory
+  | inr other ↦ inl (one f e found cause other some)
+]
+
+pub refused_by : {X : Type 0} (P : GdbError → Type 0) (r : Result X GdbError) (f e : GdbError) → ((x y : GdbError) → P x → P y → x ≢ NoMemory → y ≢ NoMemory → x ≡ y) → r ≡ Err f → IfErr r P → P e → e ≢ NoMemory → IsRefusedFor r e
+refused_by P (Ok x) f e one is found cause some = absurd (cc is)
+refused_by P (Err g) f e one is found cause some = told P g e one found cause some
 
 -- ---- the units of an object
 
@@ -144,6 +166,12 @@ one_scan_cause c object file e f (in_names g none fails) (in_names h none' fails
 one_scan_cause c object file e f (in_names g none fails) no_memory a b = absurd (b refl)
 one_scan_cause c object file e f no_memory q a b = absurd (a refl)
 
+pub told_object : (c : Class) (object : ℕ) (file : List ℕ) (f e : GdbError) → IsScanCause c object file f → IsScanCause c object file e → e ≢ NoMemory → (f ≡ e) ⊎ (f ≡ NoMemory)
+told_object c object file f e found cause some = told (IsScanCause c object file) f e (one_scan_cause c object file) found cause some
+
+pub no_scan_cause : (c : Class) (object : ℕ) (file : List ℕ) (ps : List Placement) (scan : Option ObjectScan) (e : GdbError) → ScansObject c file object ps scan → IsScanCause c object file e → e ≡ NoMemory
+no_scan_cause c object file ps scan e scans cause = memory_is e (excluded c object file scans.held e scans.is_object scans.plain cause)
+
 -- ---- several objects
 
 -- the object at a place of sound files is sound
@@ -192,6 +220,9 @@ one_files_cause c files e f (files_spec.in_object g p) (files_spec.in_object h q
 one_files_cause c files e f (files_spec.in_object g p) files_spec.no_memory a b = absurd (b refl)
 one_files_cause c files e f files_spec.no_memory q a b = absurd (a refl)
 
+pub told_files : (c : Class) (files : List (List ℕ)) (f e : GdbError) → IsFilesCause c files f → IsFilesCause c files e → e ≢ NoMemory → (f ≡ e) ⊎ (f ≡ NoMemory)
+told_files c files f e found cause some = told (IsFilesCause c files) f e (one_files_cause c files) found cause some
+
 -- where all objects are sound, none is at fault
 no_bad_object : (c : Class) (files : List (List ℕ)) (os : List Object) (e : GdbError) → AreObjectsOf c files os → ArePlain c files → FirstBadObject c files e → IsOnlyMemory e
 no_bad_object c files os e held plain p =
@@ -201,6 +232,9 @@ no_bad_object c files os e held plain p =
 pub no_files_cause : (c : Class) (files : List (List ℕ)) (os : List Object) (e : GdbError) → AreObjectsOf c files os → ArePlain c files → IsFilesCause c files e → IsOnlyMemory e
 no_files_cause c files os e held plain (files_spec.in_object g p) = no_bad_object c files os g held plain p
 no_files_cause c files os e held plain files_spec.no_memory = tt
+
+pub no_cause_in_scans : (c : Class) (files : List (List ℕ)) (ps : List Placement) (scans : List (Option ObjectScan)) (e : GdbError) → ScansObjects c files ps scans → IsFilesCause c files e → e ≡ NoMemory
+no_cause_in_scans c files ps scans e done cause = memory_is e (no_files_cause c files done.objects e done.held done.plain cause)
 
 pub only_memory_in_files : {X : Type 0} (c : Class) (files : List (List ℕ)) (os : List Object) (r : Result X GdbError) → AreObjectsOf c files os → ArePlain c files → IfErr r (IsFilesCause c files) → IfErr r IsOnlyMemory
 only_memory_in_files c files os (Ok x) held plain cause = cause
@@ -241,6 +275,9 @@ only_size_memory version c files ps e index sized_spec.no_memory = tt
 
 pub no_size_cause : IndexableHasNoCause
 no_size_cause version c files ps e index cause = memory_is e (only_size_memory version c files ps e index cause)
+
+pub told_size : (version : ℕ) (c : Class) (files : List (List ℕ)) (ps : List Placement) (f e : GdbError) → IsSizeCause version c files ps f → IsSizeCause version c files ps e → e ≢ NoMemory → (f ≡ e) ⊎ (f ≡ NoMemory)
+told_size version c files ps f e found cause some = told (IsSizeCause version c files ps) f e (one_size_cause version c files ps) found cause some
 
 -- an index with a size that its offsets can count is one
 pub indexable : (version : ℕ) (c : Class) (files : List (List ℕ)) (ps : List Placement) (size : ℕ) (scan : Option Scan) → SizesIndex version c files ps size scan → size < 2 ^ 32 → IsIndexable version c files ps

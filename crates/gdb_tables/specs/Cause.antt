@@ -1,5 +1,5 @@
 -- Why an object is not scanned, and why objects are not gathered. Want of memory needs no cause.
-use Rattle.std.specs.Prelude.{◌≡◌, ℕ, List, ◌∷◌, ◌++◌, Some, None}
+use Rattle.std.specs.Prelude.{◌≡◌, ◌⊎◌, ℕ, List, ◌∷◌, ◌++◌, Some, None, Result, MatchResult}
 use Rattle.elf_format.specs.declared.error.ElfError.TheVariants.{SectionData}
 use Rattle.elf_format.specs.declared.index.SectionIndex.{SectionIndex}
 use Rattle.elf_format.specs.Class.{Class}
@@ -80,6 +80,10 @@ pub data IsScanCause (c : Class) (object : ℕ) (file : List ℕ) : GdbError →
   in_units : (e : GdbError) → first_compressed c file ≡ None → IsUnitCause c object file e → IsScanCause c object file e
   in_names : (e : GdbError) → first_compressed c file ≡ None → FailsInNames c object file e → IsScanCause c object file e
   no_memory : IsScanCause c object file NoMemory
+
+-- what is answered where an error has a cause: that error, or want of memory
+abbrev pub IsRefusedFor : {X : Type 0} → Result X GdbError → GdbError → Type 0
+IsRefusedFor r e = MatchResult r (λ _. ⊥) (λ f. (f ≡ e) ⊎ (f ≡ NoMemory))
 
 -- want of memory, and no other refusal
 abbrev pub IsOnlyMemory : GdbError → Type 0

@@ -1,10 +1,12 @@
 //! The scans of all objects.
 
-ghost use Rattle.std.specs.Prelude.{◌≡◌, ℕ, ◌^◌, ◌<◌, List, length, IfOk, IfErr};
+ghost use Rattle.std.specs.Prelude.{◌≡◌, ◌≢◌, ℕ, ◌^◌, ◌<◌, List, length, IfOk, IfErr};
 ghost use Rattle.std.specs.List.{All};
 ghost use Rattle.gdb_index_format.specs.Published.{Object};
 ghost use Rattle.gdb_index_format.specs.Objects.{AreObjectsOf};
-ghost use Rattle.gdb_tables.specs.Cause.{IsOnlyMemory};
+ghost use Rattle.gdb_tables.specs.declared.error.GdbError.{GdbError as GdbError_spec};
+ghost use Rattle.gdb_tables.specs.declared.error.GdbError.TheVariants.{NoMemory};
+ghost use Rattle.gdb_tables.specs.Cause.{IsRefusedFor, IsOnlyMemory};
 ghost use Rattle.gdb_tables.specs.Files.{bytes_of, ArePlain, ArePlacedIn, ScansObjects, IsFilesCause};
 
 use crate::error::GdbError;
@@ -29,6 +31,7 @@ pub fn scan_objects<'a, C: ElfClass>(
     requires placements { ArePlacedIn C.class (bytes_of files.now) placements.now }
     ensures scans { IfOk result (λ scans. ScansObjects C.class (bytes_of files.now) placements.now scans.items) }
     ensures cause { IfErr result (IsFilesCause C.class (bytes_of files.now)) }
+    ensures exact { (e : GdbError_spec) → IsFilesCause C.class (bytes_of files.now) e → e ≢ NoMemory → IsRefusedFor result e }
     ensures complete { (os : List Object) → AreObjectsOf C.class (bytes_of files.now) os → ArePlain C.class (bytes_of files.now) → IfErr result IsOnlyMemory }
 {
     let mut scans = Vec::new(alloc);

@@ -1,14 +1,15 @@
 //! The scan of one object: its units, the names that it publishes, and how many of its sections are placed.
 
-ghost use Rattle.std.specs.Prelude.{◌≡◌, ℕ, ◌*◌, ◌^◌, ◌<◌, ◌≤◌, List, None, IfOk, IfErr, OnOk, option_copied, length};
+ghost use Rattle.std.specs.Prelude.{◌≡◌, ◌≢◌, ℕ, ◌*◌, ◌^◌, ◌<◌, ◌≤◌, List, None, IfOk, IfErr, OnOk, option_copied, length};
 ghost use Rattle.std.specs.Result.{result_ok};
 ghost use Rattle.elf_format.specs.declared.error.ElfError.TheVariants.{SectionData};
 ghost use Rattle.elf_format.specs.Section.{section_bytes, sections};
 ghost use Rattle.gdb_index_format.specs.Published.{Object};
 ghost use Rattle.gdb_index_format.specs.Objects.{IsUnitsOf, IsObjectOf, first_compressed};
 ghost use Rattle.gdb_sections.specs.UnitSearch.{Ascend};
-ghost use Rattle.gdb_tables.specs.declared.error.GdbError.TheVariants.{BadElf};
-ghost use Rattle.gdb_tables.specs.Cause.{IsUnitCause, IsSetsCause, IsNamesCause, IsScanCause, IsOnlyMemory};
+ghost use Rattle.gdb_tables.specs.declared.error.GdbError.{GdbError as GdbError_spec};
+ghost use Rattle.gdb_tables.specs.declared.error.GdbError.TheVariants.{BadElf, NoMemory};
+ghost use Rattle.gdb_tables.specs.Cause.{IsUnitCause, IsSetsCause, IsNamesCause, IsScanCause, IsRefusedFor, IsOnlyMemory};
 ghost use Rattle.gdb_tables.specs.Gathered.{GathersNames};
 ghost use Rattle.gdb_tables.specs.Groups.{shown};
 ghost use Rattle.gdb_tables.specs.PlacedIn.{ArePlacements, NameSections};
@@ -126,6 +127,7 @@ pub fn scan_one_object<'a, C: ElfClass>(
     requires named { NameSections C.class file.now.bytes object placements.now }
     ensures scan { IfOk result (ScansObject C.class file.now.bytes object placements.now) }
     ensures cause { IfErr result (IsScanCause C.class object file.now.bytes) }
+    ensures exact { (e : GdbError_spec) → IsScanCause C.class object file.now.bytes e → e ≢ NoMemory → IsRefusedFor result e }
     ensures complete { (o : Object) → IsObjectOf C.class file.now.bytes o → first_compressed C.class file.now.bytes ≡ None → IfErr result IsOnlyMemory }
 {
     if let Some(section) = first_compressed(file) {

@@ -1,9 +1,11 @@
 //! The size of the index of all objects, before it is written.
 
-ghost use Rattle.std.specs.Prelude.{◌^◌, ◌<◌, length, IfOk, IfErr, IfSome, OnOk};
+ghost use Rattle.std.specs.Prelude.{◌≢◌, ◌^◌, ◌<◌, length, IfOk, IfErr, IfSome, OnOk};
 ghost use Rattle.std.specs.List.{All};
 ghost use Rattle.gdb_index.specs.Size.{IsIndexSize, counts_of};
-ghost use Rattle.gdb_tables.specs.Cause.{IsOnlyMemory};
+ghost use Rattle.gdb_tables.specs.declared.error.GdbError.{GdbError as GdbError_spec};
+ghost use Rattle.gdb_tables.specs.declared.error.GdbError.TheVariants.{NoMemory};
+ghost use Rattle.gdb_tables.specs.Cause.{IsRefusedFor, IsOnlyMemory};
 ghost use Rattle.gdb_tables.specs.Files.{bytes_of, ArePlacedIn};
 ghost use Rattle.gdb_tables.specs.Sized.{SizesIndex, IsIndexable, IsSizeCause};
 
@@ -38,6 +40,7 @@ pub fn compute_gdb_index_size<'a, C: ElfClass>(
     ensures room { IfOk result (λ sized. IfSome sized.1 (λ scan. IsIndexSize INDEX_VERSION (counts_of scan) sized.0)) }
     ensures indexable { OnOk result (IsIndexable INDEX_VERSION C.class (bytes_of files.now) placements.now) }
     ensures cause { IfErr result (IsSizeCause INDEX_VERSION C.class (bytes_of files.now) placements.now) }
+    ensures exact { (e : GdbError_spec) → IsSizeCause INDEX_VERSION C.class (bytes_of files.now) placements.now e → e ≢ NoMemory → IsRefusedFor result e }
     ensures complete { IsIndexable INDEX_VERSION C.class (bytes_of files.now) placements.now → IfErr result IsOnlyMemory }
 {
     let scans = match scan_objects(alloc, files, placements) {

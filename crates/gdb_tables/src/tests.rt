@@ -35,42 +35,33 @@ const UNIT: CuBoundary = CuBoundary {
 #[test]
 fn one_object_is_gathered(rt: HostRuntime) -> Result<(), Fail> {
     let alloc = rt.alloc();
-    let Ok(file) = File::<Class64>::parse_bytes(OBJECT, false) else {
-        assert!(rt; false);
-        return Ok(());
-    };
-    let Some(scan) = scan_one_object(alloc, 0, &file, &[])? else {
-        assert!(rt; false);
-        return Ok(());
-    };
+    let file = File::<Class64>::parse_bytes(OBJECT, false).expect(&rt, "an object");
+    let scan = scan_one_object(alloc, 0, &file, &[])?.expect(&rt, "an object with a unit");
     assert_eq!(rt; scan.units(), [UNIT].as_slice());
     assert_eq!(rt; scan.placed(), 0);
     let merged = merge_gdb_index_scans(alloc, vec![in alloc; Some(scan)]?)?;
     assert_eq!(rt; merged.units(), [UNIT].as_slice());
     assert_eq!(rt; merged.unit_counts(), [1].as_slice());
+    Ok(())
+}
+
+#[test]
+fn objects_have_a_size(rt: HostRuntime) -> Result<(), Fail> {
+    let alloc = rt.alloc();
+    let one = File::<Class64>::parse_bytes(OBJECT, false).expect(&rt, "an object");
+    let first = File::<Class64>::parse_bytes(OBJECT, false).expect(&rt, "an object");
+    let second = File::<Class64>::parse_bytes(OBJECT, false).expect(&rt, "an object");
+    let none: [File<'_, Class64>; 0] = [];
+    let (size, merged) = compute_gdb_index_size(alloc, &[one], &[])?;
+    let merged = merged.expect(&rt, "an object with a unit");
+    assert_eq!(rt; size, 81);
     assert_eq!(rt; merged.names().len(), 1);
     for named in merged.names() {
         assert_eq!(rt; named.name, b"main".as_slice());
         assert_eq!(rt; named.words.as_slice(), [0x3000_0000].as_slice());
     }
-    Ok(())
-}
-
-#[test]
-fn two_objects_have_a_size(rt: HostRuntime) -> Result<(), Fail> {
-    let alloc = rt.alloc();
-    let Ok(first) = File::<Class64>::parse_bytes(OBJECT, false) else {
-        assert!(rt; false);
-        return Ok(());
-    };
-    let Ok(second) = File::<Class64>::parse_bytes(OBJECT, false) else {
-        assert!(rt; false);
-        return Ok(());
-    };
     let (size, merged) = compute_gdb_index_size(alloc, &[first, second], &[])?;
-    assert_eq!(rt; size, 101);
-    assert!(rt; merged.is_some());
-    let none: [File<'_, Class64>; 0] = [];
+    assert!(rt; size == 101 && merged.is_some());
     let (size, merged) = compute_gdb_index_size(alloc, &none, &[])?;
     assert!(rt; size == 0 && merged.is_none());
     Ok(())

@@ -5,7 +5,7 @@ use Rattle.elf_view.specs.Parsed.{Parsed}
 use Rattle.gdb_tables.specs.declared.error.GdbError.TheVariants.{NoMemory}
 use Rattle.gdb_tables.specs.Files.{bytes_of, IsFilesCause, in_object, no_memory}
 use Rattle.gdb_tables.proofs.Causes.{holds_of}
-use Rattle.gdb_tables.proofs.OneCause.{no_files_cause, only_memory_in_files}
+use Rattle.gdb_tables.proofs.OneCause.{refused_by, one_files_cause, told_files, no_cause_in_scans, no_files_cause, only_memory_in_files}
 use Rattle.gdb_tables.proofs.Scanning.{Scanned, scanned_none, scanned_more, scans_objects, take_next, take_all_files, taken_length, file_at, first_bad_object, names_sections_of}
 use Rattle.gdb_tables.proofs.Sounding.{placed_few}
 use Rattle.gdb_tables.proofs.files.scan_objects.Goals as goal
@@ -21,11 +21,21 @@ returns-in_err-push-in-Ok-clause-cause g c =
     let p = err_from_is_err_and c.from_residual.result c.from_residual.ensures.1 in
     holds_of (IsFilesCause g.C.ElfClass.class (bytes_of c.args.files.now)) c.from_residual.result NoMemory (p.1 ∙ ap (λ e. Err e) p.2) no_memory
 
+pub returns-in_err-push-in-Ok-clause-exact : goal.returns-in_err-push-in-Ok-clause-exact
+returns-in_err-push-in-Ok-clause-exact g c =
+    let class = g.C.ElfClass.class in
+    let files = bytes_of c.args.files.now in
+    let p = err_from_is_err_and c.from_residual.result c.from_residual.ensures.1 in
+    λ e cause some. refused_by (IsFilesCause class files) c.from_residual.result NoMemory e (one_files_cause class files) (p.1 ∙ ap (λ x. Err x) p.2) (returns-in_err-push-in-Ok-clause-cause g c) cause some
+
 pub returns-in-Err-clause-cause : goal.returns-in-Err-clause-cause
 returns-in-Err-clause-cause g c =
     let i = c.loop-object.object in
     let f = c.index-files-object.result in
     in_object c.in-Err.error (first_bad_object g.C.ElfClass.class (bytes_of c.args.files.now) c.args.placements.now c.loop-object.scans.items i f.bytes c.in-Err.error (file_at c.args.files.now i f (omega arith) c.index-files-object.is) c.loop-object.invariant.done c.in-Err.ensures.cause)
+
+pub returns-in-Err-clause-exact : goal.returns-in-Err-clause-exact
+returns-in-Err-clause-exact g c = λ e cause some. told_files g.C.ElfClass.class (bytes_of c.args.files.now) c.in-Err.error e (returns-in-Err-clause-cause g c) cause some
 
 pub returns-in_err-push-in-Ok-clause-complete : goal.returns-in_err-push-in-Ok-clause-complete
 returns-in_err-push-in-Ok-clause-complete g c = λ os held plain. only_memory_in_files g.C.ElfClass.class (bytes_of c.args.files.now) os c.from_residual.result held plain (returns-in_err-push-in-Ok-clause-cause g c)
@@ -46,3 +56,6 @@ loop-object-preserved g c =
 
 pub returns-clause-scans : goal.returns-clause-scans
 returns-clause-scans g c = scans_objects g.C.ElfClass.class (bytes_of c.args.files.now) c.args.placements.now c.loop-object.scans.items (subst (λ fs. Scanned g.C.ElfClass.class fs c.args.placements.now c.loop-object.scans.items) (take_all_files c.args.files.now c.loop-object.object (omega arith)) c.loop-object.invariant.done)
+
+pub returns-clause-exact : goal.returns-clause-exact
+returns-clause-exact g c = λ e cause some. some (no_cause_in_scans g.C.ElfClass.class (bytes_of c.args.files.now) c.args.placements.now c.loop-object.scans.items e (returns-clause-scans g c) cause)

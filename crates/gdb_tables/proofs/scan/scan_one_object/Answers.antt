@@ -1,4 +1,4 @@
-use Rattle.std.proofs.Common.{◌≡◌, ◌<◌, ◌≤◌, length, None, Err, ap, sym, subst, ◌∙◌, arith, option_map}
+use Rattle.std.proofs.Common.{◌≡◌, ◌<◌, ◌≤◌, length, Some, None, Err, ap, sym, subst, ◌∙◌, arith, option_map}
 use Rattle.std.specs.List.{filter}
 use Rattle.std.proofs.lemmas.Grind.{common_steps}
 use Rattle.std.proofs.lemmas.Result.{err_from_is_err_and}
@@ -14,12 +14,16 @@ use Rattle.gdb_tables.specs.Marks.{groups_in}
 use Rattle.gdb_tables.specs.PlacedIn.{placed_in, is_counted}
 use Rattle.gdb_tables.specs.Scan.{IsSoundScan}
 use Rattle.gdb_tables.proofs.Causes.{holds_of, only_memory}
+use Rattle.gdb_tables.proofs.OneCause.{refused_by, one_scan_cause, told_object, no_scan_cause}
 use Rattle.gdb_tables.proofs.Marking.{listed_shows}
 use Rattle.gdb_tables.proofs.Sounding.{units_ascend, placed_few, sound_scan, scanned, scanned_none, fails_in_names}
 use Rattle.gdb_tables.proofs.scan.scan_one_object.Goals as goal
 
 pub returns-in-Some-clause-cause : goal.returns-in-Some-clause-cause
 returns-in-Some-clause-cause g c = compressed c.in-Some.section (sym c.first_compressed.ensures ∙ ap (option_map (λ (i : SectionIndex). i.0)) c.in-Some.is)
+
+pub returns-in-Some-clause-exact : goal.returns-in-Some-clause-exact
+returns-in-Some-clause-exact g c = λ e cause some. told_object g.C.ElfClass.class c.args.object c.args.file.now.bytes _ e (returns-in-Some-clause-cause g c) cause some
 
 pub returns-in_err-units-clause-cause : goal.returns-in_err-units-clause-cause
 returns-in_err-units-clause-cause g c =
@@ -29,6 +33,14 @@ returns-in_err-units-clause-cause g c =
     let plain : first_compressed class file ≡ None = sym c.first_compressed.ensures ∙ ap (option_map (λ (i : SectionIndex). i.0)) c.in_default.is in
     let p = err_from_is_err_and c.from_residual.result c.from_residual.ensures.1 in
     holds_of (IsScanCause class object file) c.from_residual.result c.in_err-units.field-0.0 (p.1 ∙ ap (λ e. Err e) p.2) (in_units c.in_err-units.field-0.0 plain c.in_err-units.ensures.cause)
+
+pub returns-in_err-units-clause-exact : goal.returns-in_err-units-clause-exact
+returns-in_err-units-clause-exact g c =
+    let class = g.C.ElfClass.class in
+    let object = c.args.object in
+    let file = c.args.file.now.bytes in
+    let p = err_from_is_err_and c.from_residual.result c.from_residual.ensures.1 in
+    λ e cause some. refused_by (IsScanCause class object file) c.from_residual.result c.in_err-units.field-0.0 e (one_scan_cause class object file) (p.1 ∙ ap (λ x. Err x) p.2) (returns-in_err-units-clause-cause g c) cause some
 
 pub returns-in_err-units-clause-complete : goal.returns-in_err-units-clause-complete
 returns-in_err-units-clause-complete g c = λ o is none. only_memory g.C.ElfClass.class c.args.object c.args.file.now.bytes o c.from_residual.result is none (returns-in_err-units-clause-cause g c)
@@ -43,6 +55,9 @@ returns-then-is_empty-clause-scan g c =
     let units = c.in_ok-units.ensures.units in
     let none : length us ≡ 0 = grind (arith, common_steps) in
     scanned_none class file object c.args.placements.now us units none plain
+
+pub returns-then-is_empty-clause-exact : goal.returns-then-is_empty-clause-exact
+returns-then-is_empty-clause-exact g c = λ e cause some. some (no_scan_cause g.C.ElfClass.class c.args.object c.args.file.now.bytes c.args.placements.now None e (returns-then-is_empty-clause-scan g c) cause)
 
 pub ascending-requires : goal.ascending-requires
 ascending-requires g c = subst Ascend (sym c.deref.ensures.value) (units_ascend g.C.ElfClass.class c.args.file.now.bytes c.in_ok-units.units.items c.in_ok-units.ensures.units)
@@ -59,6 +74,14 @@ returns-in_err-names-clause-cause g c =
     let p = err_from_is_err_and c.from_residual-in_err-names.result c.from_residual-in_err-names.ensures.1 in
     holds_of (IsScanCause class object file) c.from_residual-in_err-names.result c.in_err-names.field-0.0 (p.1 ∙ ap (λ e. Err e) p.2) (in_names c.in_err-names.field-0.0 plain (fails_in_names class object file us c.in_err-names.field-0.0 units some c.in_err-names.ensures.cause))
 
+pub returns-in_err-names-clause-exact : goal.returns-in_err-names-clause-exact
+returns-in_err-names-clause-exact g c =
+    let class = g.C.ElfClass.class in
+    let object = c.args.object in
+    let file = c.args.file.now.bytes in
+    let p = err_from_is_err_and c.from_residual-in_err-names.result c.from_residual-in_err-names.ensures.1 in
+    λ e cause some. refused_by (IsScanCause class object file) c.from_residual-in_err-names.result c.in_err-names.field-0.0 e (one_scan_cause class object file) (p.1 ∙ ap (λ x. Err x) p.2) (returns-in_err-names-clause-cause g c) cause some
+
 pub returns-in_err-names-clause-complete : goal.returns-in_err-names-clause-complete
 returns-in_err-names-clause-complete g c = λ o is none. only_memory g.C.ElfClass.class c.args.object c.args.file.now.bytes o c.from_residual-in_err-names.result is none (returns-in_err-names-clause-cause g c)
 
@@ -66,6 +89,14 @@ pub returns-in_err-names-2-clause-cause : goal.returns-in_err-names-2-clause-cau
 returns-in_err-names-2-clause-cause g c =
     let p = err_from_is_err_and c.from_residual-in_err-names-2.result c.from_residual-in_err-names-2.ensures.1 in
     holds_of (IsScanCause g.C.ElfClass.class c.args.object c.args.file.now.bytes) c.from_residual-in_err-names-2.result NoMemory (p.1 ∙ ap (λ e. Err e) p.2) no_memory
+
+pub returns-in_err-names-2-clause-exact : goal.returns-in_err-names-2-clause-exact
+returns-in_err-names-2-clause-exact g c =
+    let class = g.C.ElfClass.class in
+    let object = c.args.object in
+    let file = c.args.file.now.bytes in
+    let p = err_from_is_err_and c.from_residual-in_err-names-2.result c.from_residual-in_err-names-2.ensures.1 in
+    λ e cause some. refused_by (IsScanCause class object file) c.from_residual-in_err-names-2.result NoMemory e (one_scan_cause class object file) (p.1 ∙ ap (λ x. Err x) p.2) (returns-in_err-names-2-clause-cause g c) cause some
 
 pub new-requires : goal.new-requires
 new-requires g c =
@@ -94,3 +125,6 @@ returns-clause-scan g c =
     let named : groups_in c.in_ok-names-2.names.items ≡ shown c.in_ok-names.names.entries = ap groups_in c.in_ok-names-2.ensures ∙ listed_shows c.in_ok-names.names.entries in
     let count : c.count_placed-placed.result ≡ placed_in class file object c.args.placements.now = c.count_placed-placed.ensures ∙ ap (λ l. length (filter (is_counted class file) l)) c.placements_of.ensures in
     scanned class file object c.args.placements.now us (shown c.in_ok-names.names.entries) c.count_placed-placed.result c.new.result (c.new.ensures ∙ ap (λ gs. record { units = us; names = gs; placed = c.count_placed-placed.result }) named) units some gathered plain count c.in_ok-names.ensures.fit
+
+pub returns-clause-exact : goal.returns-clause-exact
+returns-clause-exact g c = λ e cause some. some (no_scan_cause g.C.ElfClass.class c.args.object c.args.file.now.bytes c.args.placements.now (Some c.new.result) e (returns-clause-scan g c) cause)

@@ -6,11 +6,14 @@ use Rattle.gdb_index.specs.Size.{IsIndexSize}
 use Rattle.gdb_tables.specs.declared.error.GdbError.TheVariants.{IndexTooLarge}
 use Rattle.gdb_tables.specs.Files.{bytes_of}
 use Rattle.gdb_tables.proofs.IndexSizes.{objects_cause, scans_as_files, merge_cause, gathered, sized_none, counts_small, sized_some, sized_large}
-use Rattle.gdb_tables.proofs.OneCause.{only_size_memory, indexable}
+use Rattle.gdb_tables.proofs.OneCause.{only_size_memory, no_size_cause, told_size, indexable}
 use Rattle.gdb_tables.proofs.sizing.compute_gdb_index_size.Goals as goal
 
 pub returns-in-Err-clause-cause : goal.returns-in-Err-clause-cause
 returns-in-Err-clause-cause g c = objects_cause _ g.C.ElfClass.class (bytes_of c.args.files.now) c.args.placements.now c.in-Err.error c.in-Err.ensures.cause
+
+pub returns-in-Err-clause-exact : goal.returns-in-Err-clause-exact
+returns-in-Err-clause-exact g c = λ e cause some. told_size _ g.C.ElfClass.class (bytes_of c.args.files.now) c.args.placements.now c.in-Err.error e (returns-in-Err-clause-cause g c) cause some
 
 pub returns-in-Err-clause-complete : goal.returns-in-Err-clause-complete
 returns-in-Err-clause-complete g c = λ index. only_size_memory _ g.C.ElfClass.class (bytes_of c.args.files.now) c.args.placements.now c.in-Err.error index (returns-in-Err-clause-cause g c)
@@ -34,6 +37,9 @@ returns-in-Err-merge_gdb_index_scans-clause-cause g c =
     let done = c.in-Ok.ensures.scans in
     merge_cause _ class files ps ss c.in-Err-merge_gdb_index_scans.error done c.in-Err-merge_gdb_index_scans.ensures.cause
 
+pub returns-in-Err-merge_gdb_index_scans-clause-exact : goal.returns-in-Err-merge_gdb_index_scans-clause-exact
+returns-in-Err-merge_gdb_index_scans-clause-exact g c = λ e cause some. told_size _ g.C.ElfClass.class (bytes_of c.args.files.now) c.args.placements.now c.in-Err-merge_gdb_index_scans.error e (returns-in-Err-merge_gdb_index_scans-clause-cause g c) cause some
+
 pub returns-in-Err-merge_gdb_index_scans-clause-complete : goal.returns-in-Err-merge_gdb_index_scans-clause-complete
 returns-in-Err-merge_gdb_index_scans-clause-complete g c = λ index. only_size_memory _ g.C.ElfClass.class (bytes_of c.args.files.now) c.args.placements.now c.in-Err-merge_gdb_index_scans.error index (returns-in-Err-merge_gdb_index_scans-clause-cause g c)
 
@@ -51,6 +57,9 @@ returns-then-is_empty-clause-size g c =
 
 pub returns-then-is_empty-clause-indexable : goal.returns-then-is_empty-clause-indexable
 returns-then-is_empty-clause-indexable g c = indexable _ g.C.ElfClass.class (bytes_of c.args.files.now) c.args.placements.now 0 None (returns-then-is_empty-clause-size g c) (omega arith)
+
+pub returns-then-is_empty-clause-exact : goal.returns-then-is_empty-clause-exact
+returns-then-is_empty-clause-exact g c = λ e cause some. some (no_size_cause _ g.C.ElfClass.class (bytes_of c.args.files.now) c.args.placements.now e (returns-then-is_empty-clause-indexable g c) cause)
 
 pub checked_index_size-requires : goal.checked_index_size-requires
 checked_index_size-requires g c =
@@ -79,6 +88,9 @@ returns-in-Ok-checked_index_size-clause-size g c =
 pub returns-in-Ok-checked_index_size-clause-indexable : goal.returns-in-Ok-checked_index_size-clause-indexable
 returns-in-Ok-checked_index_size-clause-indexable g c = indexable _ g.C.ElfClass.class (bytes_of c.args.files.now) c.args.placements.now c.in-Ok-checked_index_size.size (Some c.in-Ok-merge_gdb_index_scans.merged) (returns-in-Ok-checked_index_size-clause-size g c) (c.in-Ok-checked_index_size.ensures {u = tt}).below
 
+pub returns-in-Ok-checked_index_size-clause-exact : goal.returns-in-Ok-checked_index_size-clause-exact
+returns-in-Ok-checked_index_size-clause-exact g c = λ e cause some. some (no_size_cause _ g.C.ElfClass.class (bytes_of c.args.files.now) c.args.placements.now e (returns-in-Ok-checked_index_size-clause-indexable g c) cause)
+
 pub returns-in-Ok-checked_index_size-clause-room : goal.returns-in-Ok-checked_index_size-clause-room
 returns-in-Ok-checked_index_size-clause-room g c = subst (λ n. IsIndexSize _ n c.in-Ok-checked_index_size.size) c.counts-counts.ensures (c.in-Ok-checked_index_size.ensures {u = tt}).size
 
@@ -92,6 +104,9 @@ returns-clause-cause g c =
     let m = c.in-Ok-merge_gdb_index_scans.merged in
     let all = gathered class files ps ss m done c.in-Ok-merge_gdb_index_scans.ensures.merged c.in-Ok-merge_gdb_index_scans.ensures.objects in
     sized_large _ class files ps ss m c.counts-counts.result c.in-Err-checked_index_size.field-0 done all c.counts-counts.ensures (c.in-Err-checked_index_size.ensures {u = tt})
+
+pub returns-clause-exact : goal.returns-clause-exact
+returns-clause-exact g c = λ e cause some. told_size _ g.C.ElfClass.class (bytes_of c.args.files.now) c.args.placements.now (IndexTooLarge c.in-Err-checked_index_size.field-0.0) e (returns-clause-cause g c) cause some
 
 pub returns-clause-complete : goal.returns-clause-complete
 returns-clause-complete g c = λ index. only_size_memory _ g.C.ElfClass.class (bytes_of c.args.files.now) c.args.placements.now (IndexTooLarge c.in-Err-checked_index_size.field-0.0) index (returns-clause-cause g c)
