@@ -1,5 +1,9 @@
 -- An input is refused for one cause, that of the first condition which does not hold; a valid one for none.
+use Rattle.gdb_tables.specs.declared.error.GdbError.{GdbError}
+use Rattle.gdb_tables.specs.declared.error.GdbError.TheVariants as gdb
 use Rattle.gdb_tables.specs.Misplaced.{misplaced}
+use Rattle.sframe_format.specs.declared.fault.SframeFault.{SframeFault}
+use Rattle.sframe_format.specs.declared.fault.SframeFault.TheVariants as faults
 use Rattle.std.proofs.Common.{◌≡◌, ◌⊎◌, ℕ, ◌<◌, [], Option, false, not, Some, None, List, length, take, get_or, ap, sym, ◌∙◌, subst, arith, inl, inr}
 use Rattle.std.specs.Prelude.{position, unwrap_or}
 use Rattle.std.proofs.lemmas.Bool.{false≢true, cases_order}
@@ -206,3 +210,30 @@ one_refusal input e f left right = one_nested input e f (nested input e left) (n
 
 pub no_refusal : (input : Input) (e : DeriveError) → IsValid input → HasCause input e → ⊥
 no_refusal input e valid cause = none_nested input valid e (nested input e cause)
+
+-- spans inside are no cause of a bad span
+not_of_gdb : (place : ℕ) (g : GdbError) → errors.BadSpan place ≡ of_gdb_error g → ⊥
+not_of_gdb place (gdb.BadElf object kind) is = cc
+not_of_gdb place (gdb.CompressedSection object section) is = cc
+not_of_gdb place (gdb.BadUnit object offset fault) is = cc
+not_of_gdb place (gdb.BadPubnames object section) is = cc
+not_of_gdb place (gdb.TooManyUnits count) is = cc
+not_of_gdb place (gdb.IndexTooLarge size) is = cc
+not_of_gdb place gdb.NoMemory is = cc
+
+not_of_sframe : (place : ℕ) (g : SframeFault) → errors.BadSpan place ≡ of_sframe_fault g → ⊥
+not_of_sframe place (faults.BadRange at) is = cc
+not_of_sframe place (faults.BadMagic value offset) is = cc
+not_of_sframe place (faults.Truncated kind offset) is = cc
+not_of_sframe place (faults.TooLarge kind needed limit) is = cc
+not_of_sframe place (faults.AddressRange function value) is = cc
+not_of_sframe place faults.NoMemory is = cc
+
+pub no_bad_span : (input : Input) (place : ℕ) → HasSpans input → HasCause input (errors.BadSpan place) → ⊥
+unfolding Excludes
+no_bad_span input place inside (in_spans cause) = no_span_cause input (errors.BadSpan place) inside cause
+no_bad_span input place inside (in_objects a cause) = let is = cause.2 in cc
+no_bad_span input place inside (in_placements a b cause) = let is = cause.1 in cc
+no_bad_span input place inside (in_index a b c cause) = not_of_gdb place cause.0 cause.2
+no_bad_span input place inside (in_relocations a b c d cause) = let is = cause.3 in cc
+no_bad_span input place inside (in_sframe a b c d g cause) = not_of_sframe place cause.0 cause.2

@@ -6,8 +6,10 @@
 mod derive;
 mod error;
 mod index;
+mod laws;
 mod object;
 mod order;
 
 pub use derive::{Derived, derive_tables};
 pub use error::DeriveError;
+pub use laws::{inside_is_no_bad_span, refused_for_one_cause, valid_has_no_cause};

@@ -49,7 +49,7 @@ report_named units names index index' sframe sframe' outcome outcome' i s o =
     ∙ ap (λ x. report_of units names outcome index' x) (sym s)
     ∙ ap (λ x. report_of units names x index' sframe') (sym o)
 
-pub after_writing : (machine : Architecture) (read : FilesRead) (layout : Said) (units : List CuBoundary) (names : List NameWords) (index sframe : List ℕ) (outcome : SframeOutcome) (steady : Bool) (faults faults_now : ℕ) (written now : Option (List ℕ)) (ran : Ran) → layout_of read.layout.items ≡ Ok layout → AreTablesOf (input_of machine read layout) units names index sframe outcome → ((error : DeriveError) → HasCauseIn (input_of machine read layout) error → error ≢ errors.NoMemory → ⊥) → IsWritingOf units names index sframe outcome steady faults faults_now written now ran → IsAnswerFor machine read steady faults faults_now written now ran
+pub after_writing : (machine : Architecture) (read : FilesRead) (layout : Said) (units : List CuBoundary) (names : List NameWords) (index sframe : List ℕ) (outcome : SframeOutcome) (steady : Bool) (faults faults_now : ℕ) (written now : Option (List ℕ)) (ran : Ran) → layout_of read.layout.items ≡ Ok layout → AreTablesOf (input_of machine read layout) units names index sframe outcome → ((error : DeriveError) → HasCauseIn (input_of machine read layout) error → ⊥) → IsWritingOf units names index sframe outcome steady faults faults_now written now ran → IsAnswerFor machine read steady faults faults_now written now ran
 after_writing machine read layout units names index sframe outcome steady faults faults_now written now (Done tables) laid are none (i, s, o, whole) = record {
   text = report_of units names outcome index sframe;
   reported = record {
@@ -83,14 +83,14 @@ after_writing machine read layout units names index sframe outcome steady faults
 after_writing machine read layout units names index sframe outcome steady faults faults_now written now (ReadFault place) laid are none never = absurd never
 after_writing machine read layout units names index sframe outcome steady faults faults_now written now (FileTooLong place) laid are none never = absurd never
 
-pub after_refusal : (machine : Architecture) (read : FilesRead) (layout : Said) (error : DeriveError) (steady : Bool) (faults faults_now : ℕ) (written now : Option (List ℕ)) (ran : Ran) → layout_of read.layout.items ≡ Ok layout → HasCauseIn (input_of machine read layout) error → (HasTables (input_of machine read layout) → error ≡ errors.NoMemory) → ((other : DeriveError) → HasCauseIn (input_of machine read layout) other → other ≢ errors.NoMemory → (error ≡ other) ⊎ (error ≡ errors.NoMemory)) → now ≡ written → IsRefusalOf error ran → IsAnswerFor machine read steady faults faults_now written now ran
+pub after_refusal : (machine : Architecture) (read : FilesRead) (layout : Said) (error : DeriveError) (steady : Bool) (faults faults_now : ℕ) (written now : Option (List ℕ)) (ran : Ran) → layout_of read.layout.items ≡ Ok layout → (error ≡ errors.NoMemory) ⊎ HasCauseIn (input_of machine read layout) error → (HasTables (input_of machine read layout) → error ≡ errors.NoMemory) → ((other : DeriveError) → HasCauseIn (input_of machine read layout) other → (error ≡ other) ⊎ (error ≡ errors.NoMemory)) → now ≡ written → IsRefusalOf error ran → IsAnswerFor machine read steady faults faults_now written now ran
 after_refusal machine read layout error steady faults faults_now written now (Refused answered) laid cause complete exact same (is, not_memory) = (
   record {
     layout = layout;
     laid = laid;
-    cause = let P : DeriveError → Type 0 = λ e. HasCauseIn (input_of machine read layout) e in subst P (sym is) cause;
+    cause = let P : DeriveError → Type 0 = λ e. HasCauseIn (input_of machine read layout) e in elim cause [ inl memory ↦ absurd (not_memory memory) | inr other ↦ subst P (sym is) other ];
     not_memory = λ e. not_memory (sym is ∙ e);
-    only = λ other has some. elim (exact other has some) [ inl e ↦ sym e ∙ sym is | inr e ↦ absurd (not_memory e) ];
+    only = λ other has. elim (exact other has) [ inl e ↦ sym e ∙ sym is | inr e ↦ absurd (not_memory e) ];
     no_tables = λ has. not_memory (complete has);
   },
   same,

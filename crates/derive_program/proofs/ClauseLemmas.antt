@@ -124,12 +124,12 @@ complete_by words reads writes NoMemory cause good files sink = tt
 -- what is refused has no report
 no_report : (held : Contents) (words : List (List ℕ)) (error : DeriveError) (index sframe text : List ℕ) (outcome : SframeOutcome) → IsFaulty held words error → HasReport held words index sframe outcome text → ⊥
 no_report held words error index sframe text outcome bad reported =
-    reported.no_cause error (bad.cause reported.input (input_from held words bad.readable reported.input reported.read reported.tables.has.valid.inside)) bad.not_memory
+    reported.no_cause error (bad.cause reported.input (input_from held words bad.readable reported.input reported.read reported.tables.has.spans))
 
 pub refused_exact_by : (words : List (List ℕ)) (reads : Reads) (writes : Writes) (error : DeriveError) (ran : Ran) → IsRunOf words reads writes ran → IsFaulty reads.held words error → (Rose reads.faults reads.faults_now → ⊥) ⊎ IsTrue reads.steady → (ran ≡ Refused error) ⊎ (ran ≡ NoMemory)
 refused_exact_by words reads writes error (Done tables) cause bad files = absurd (no_report reads.held words error _ _ _ _ bad cause.reported)
 refused_exact_by words reads writes error (Refused told) (cause, same) bad files =
-    let is : error ≡ told = cause.only error (bad.cause cause.input (input_from reads.held words bad.readable cause.input cause.read cause.inside)) bad.not_memory in
+    let is : error ≡ told = cause.only error (bad.cause cause.input (input_from reads.held words bad.readable cause.input cause.read cause.inside)) in
     inl (ap (λ e. Refused e) (sym is))
 refused_exact_by words reads writes error (BadWords place) (wrong, same) bad files = absurd (not_both (command_of words) bad.readable.command place bad.readable.said wrong)
 refused_exact_by words reads writes error (BadLayout line) (cause, same) bad files = absurd (no_line reads.held words line bad.readable cause)

@@ -5,9 +5,7 @@ use Rattle.elf_format.specs.declared.index.Span.{Span}
 use Rattle.elf_format.specs.Span.{AreInside}
 use Rattle.derivation.specs.declared.error.DeriveError.{DeriveError}
 use Rattle.derivation.specs.declared.error.DeriveError.TheVariants as errors
-use Rattle.derivation.specs.Built.{is_built_form}
-use Rattle.derivation.specs.Cause.{HasCause}
-use Rattle.derivation.proofs.Stages.{no_outside}
+use Rattle.derivation.proofs.Phases.{no_bad_span}
 use Rattle.program_files.specs.declared.files_read.FilesRead.{FilesRead}
 use Rattle.program_files.specs.Reading.{texts_read, read_of}
 use Rattle.program_io.specs.Contents.{Contents}
@@ -17,18 +15,12 @@ use Rattle.derive_program.specs.declared.ran.Ran.{Ran}
 use Rattle.derive_program.specs.declared.ran.Ran.TheVariants.{Done, Refused, BadWords, BadLayout, ReadFault, FileTooLong, WriteFault, NoMemory}
 use Rattle.derive_program.specs.Answer.{input_of, IsAnswerFor, HasReportFor}
 use Rattle.derive_program.specs.Cause.{HasCauseIn, HasReport, Reads, Writes, IsRunOf}
-use Rattle.derive_program.specs.Input.{Input, IsInputOf}
-
--- spans that lie in the buffer are no cause of a bad span
-span_cause : (form : Bool) (machine : Architecture) (buffer : List ℕ) (spans : List Span) (place : ℕ) → HasCause machine buffer spans form (errors.BadSpan place) → AreInside (length buffer) spans → ⊥
-span_cause false machine buffer spans place (inl is) inside = cc
-span_cause false machine buffer spans place (inr is) inside = cc
-span_cause true machine buffer spans place is inside = no_outside (length buffer) spans place inside is
+use Rattle.derive_program.specs.Input.{Input, IsInputOf, derived_from}
 
 not_span : (input : Input) (error : DeriveError) → HasCauseIn input error → AreInside (length input.buffer) input.objects → (place : ℕ) → error ≢ errors.BadSpan place
 not_span input error cause inside place is =
     let P : DeriveError → Type 0 = λ e. HasCauseIn input e in
-    span_cause (is_built_form input.objects input.layout.placements input.sframe input.layout.ranges) input.machine input.buffer input.objects place (subst P is cause) inside
+    no_bad_span (derived_from input) place inside (subst P is cause)
 
 -- the input that files are is that of the words
 input_of_words : (held : Contents) (words : List (List ℕ)) (command : Tables) (read : FilesRead) (layout : Said) → command_of words ≡ Ok command → IfSome held (λ files. read_of files command ≡ Ok (texts_read read)) → layout_of read.layout.items ≡ Ok layout → IsInputOf held words (input_of command.machine read layout)

@@ -26,7 +26,7 @@ pub record IsRefusedFor (machine : Architecture) (read : FilesRead) (error : Der
   pub laid : layout_of read.layout.items ≡ Ok layout
   pub cause : HasCauseIn (input_of machine read layout) error
   pub not_memory : error ≢ errors.NoMemory
-  pub only : (other : DeriveError) → HasCauseIn (input_of machine read layout) other → other ≢ errors.NoMemory → other ≡ error
+  pub only : (other : DeriveError) → HasCauseIn (input_of machine read layout) other → other ≡ error
   pub no_tables : HasTables (input_of machine read layout) → ⊥
 
 -- an error of the tables is answered as it is, but for want of memory
@@ -47,7 +47,7 @@ pub record HasReportFor (machine : Architecture) (read : FilesRead) (index sfram
   pub units : List CuBoundary
   pub names : List NameWords
   pub tables : AreTablesOf (input_of machine read layout) units names index sframe outcome
-  pub no_cause : (error : DeriveError) → HasCauseIn (input_of machine read layout) error → error ≢ errors.NoMemory → ⊥
+  pub no_cause : (error : DeriveError) → HasCauseIn (input_of machine read layout) error → ⊥
   pub report : text ≡ report_of units names outcome index sframe
 
 -- the report was written whole

@@ -6,7 +6,6 @@ use Rattle.gdb_index_format.specs.declared.name_words.NameWords.{NameWords}
 use Rattle.sframe_format.specs.declared.fault.SframeOutcome.{SframeOutcome}
 use Rattle.derivation.specs.declared.error.DeriveError.{DeriveError}
 use Rattle.derivation.specs.declared.error.DeriveError.TheVariants as errors
-use Rattle.derivation.specs.Built.{is_built_form}
 use Rattle.derivation.specs.Cause.{HasCause}
 use Rattle.program_io.specs.Contents.{Contents}
 use Rattle.program_io.specs.Counting.{Rose, RoseBy}
@@ -17,7 +16,7 @@ use Rattle.program_files.specs.declared.error.ReadError.TheVariants.{Unread, Too
 use Rattle.program_files.specs.Reading.{Texts, file_limit, read_of}
 use Rattle.derive_program.specs.declared.ran.Ran.{Ran}
 use Rattle.derive_program.specs.declared.ran.Ran.TheVariants.{Done, Refused, BadWords, BadLayout, ReadFault, FileTooLong, WriteFault, NoMemory}
-use Rattle.derive_program.specs.Input.{files_of, Input, IsInputOf, AreTablesOf, HasTables}
+use Rattle.derive_program.specs.Input.{files_of, Input, IsInputOf, derived_from, AreTablesOf, HasTables}
 
 -- a file that a word of the command names was not read: where the files are steady, it is the first that is not held, and each before it was read
 pub record IsReadFault (held : Contents) (steady : Bool) (words : List (List ℕ)) (place faults now : ℕ) : Type 0 where
@@ -45,8 +44,7 @@ pub record IsBadLayout (held : Contents) (words : List (List ℕ)) (line : ℕ) 
 
 -- the cause of an error for an input
 abbrev pub HasCauseIn : Input → DeriveError → Type 0
-HasCauseIn input error =
-    HasCause input.machine input.buffer input.objects (is_built_form input.objects input.layout.placements input.sframe input.layout.ranges) error
+HasCauseIn input error = HasCause (derived_from input) error
 
 -- the input that was read has no tables, by the cause of this error
 pub record IsRefused (held : Contents) (words : List (List ℕ)) (error : DeriveError) : Type 0 where
@@ -56,7 +54,7 @@ pub record IsRefused (held : Contents) (words : List (List ℕ)) (error : Derive
   pub cause : HasCauseIn input error
   pub not_span : (place : ℕ) → error ≢ errors.BadSpan place
   pub not_memory : error ≢ errors.NoMemory
-  pub only : (other : DeriveError) → HasCauseIn input other → other ≢ errors.NoMemory → other ≡ error
+  pub only : (other : DeriveError) → HasCauseIn input other → other ≡ error
   pub no_tables : HasTables input → ⊥
 
 -- the input that was read has tables, and this is the report of them
@@ -66,7 +64,7 @@ pub record HasReport (held : Contents) (words : List (List ℕ)) (index sframe :
   pub units : List CuBoundary
   pub names : List NameWords
   pub tables : AreTablesOf input units names index sframe outcome
-  pub no_cause : (error : DeriveError) → HasCauseIn input error → error ≢ errors.NoMemory → ⊥
+  pub no_cause : (error : DeriveError) → HasCauseIn input error → ⊥
   pub report : text ≡ report_of units names outcome index sframe
 
 -- a report was written whole
@@ -112,7 +110,6 @@ pub record IsGood (held : Contents) (words : List (List ℕ)) : Type 0 where
 pub record IsFaulty (held : Contents) (words : List (List ℕ)) (error : DeriveError) : Type 0 where
   pub readable : IsReadable held words
   pub cause : (input : Input) → IsInputFrom held words readable input → HasCauseIn input error
-  pub not_memory : error ≢ errors.NoMemory
 
 -- Good words, files that are told, held and within the limits, and a layout whose first wrong line is this one.
 pub record IsWrongLayout (held : Contents) (words : List (List ℕ)) (line : ℕ) : Type 0 where

@@ -1,14 +1,15 @@
 -- What tables are derived from, and the tables that it has.
-use Rattle.std.specs.Prelude.{◌≡◌, ℕ, List, [], length, Result, Ok, IfSome}
+use Rattle.std.specs.Prelude.{◌≡◌, ℕ, List, Result, Ok, IfSome}
 use Rattle.elf_format.specs.declared.architecture.Architecture.{Architecture}
 use Rattle.elf_format.specs.declared.index.Span.{Span}
 use Rattle.gdb_index_format.specs.declared.unit.CuBoundary.{CuBoundary}
 use Rattle.gdb_index_format.specs.declared.name_words.NameWords.{NameWords}
 use Rattle.sframe_format.specs.declared.fault.SframeOutcome.{SframeOutcome}
-use Rattle.sframe_format.specs.declared.fault.SframeOutcome.TheVariants.{NoDescriptors}
-use Rattle.derivation.specs.Built.{IsBuilt}
-use Rattle.derivation.specs.Derived.{IsIndexOf, bare_size}
-use Rattle.derivation.specs.Objects.{objects_of}
+use Rattle.sframe_format.specs.Sorted.{SortOf}
+use Rattle.elf_format.specs.Class.{class64}
+use Rattle.derivation.specs.Derived.{IsIndexOf}
+use Rattle.derivation.specs.Input as derivation
+use Rattle.derivation.specs.Objects.{objects_of, parsed_of}
 use Rattle.derivation.specs.Valid.{IsValid}
 use Rattle.program_io.specs.Contents.{Contents}
 use Rattle.program_text.specs.Command.{Tables, command_of}
@@ -36,16 +37,16 @@ pub record IsInputOf (held : Contents) (words : List (List ℕ)) (input : Input)
   pub read : IfSome held (λ files. read_of files command ≡ Ok (files_of input text))
   pub laid : layout_of text ≡ Ok input.layout
 
--- the input has tables, and they are built
-pub record HasTables (input : Input) : Type 0 where
-  pub valid : IsValid input.machine input.buffer input.objects
-  pub built : IsBuilt input.objects input.layout.placements input.sframe input.layout.ranges (objects_of input.buffer input.objects)
+-- what tables are derived from: the address of the first SFrame byte changes none of them
+abbrev pub derived_from : Input → derivation.Input
+derived_from input = derivation.input_of input.machine input.buffer input.objects input.layout.placements input.sframe input.layout.ranges
+
+-- the input has tables
+abbrev pub HasTables : Input → Type 0
+HasTables input = IsValid (derived_from input)
 
 -- the input has tables, and they are these
 pub record AreTablesOf (input : Input) (units : List CuBoundary) (names : List NameWords) (index sframe : List ℕ) (outcome : SframeOutcome) : Type 0 where
   pub has : HasTables input
-  pub listed : IsIndexOf (objects_of input.buffer input.objects) units index
-  pub size : length index ≡ bare_size units
-  pub no_names : names ≡ []
-  pub no_bytes : sframe ≡ []
-  pub nothing_done : outcome ≡ NoDescriptors
+  pub listed : IsIndexOf class64 (parsed_of input.buffer input.objects) input.layout.placements units names index
+  pub ordered : SortOf input.sframe input.layout.ranges sframe outcome

@@ -9,6 +9,7 @@ fn write_error<W: fmt::Write>(f: &mut fmt::Formatter<W>, error: &DeriveError) ->
     match error {
         DeriveError::BadSpan(place) => write!(f, "BadSpan {place}"),
         DeriveError::BadElf(object, kind) => write!(f, "BadElf {object} {kind:?}"),
+        DeriveError::BadPlacement(place) => write!(f, "BadPlacement {place}"),
         DeriveError::CompressedSection(object, section) => {
             write!(f, "CompressedSection {object} {}", section.0)
         }
@@ -17,7 +18,26 @@ fn write_error<W: fmt::Write>(f: &mut fmt::Formatter<W>, error: &DeriveError) ->
             offset,
             fault,
         } => write!(f, "BadUnit {object} {offset} {fault:?}"),
-        DeriveError::NotBuilt => write!(f, "NotBuilt"),
+        DeriveError::BadPubnames(object, section) => {
+            write!(f, "BadPubnames {object} {}", section.0)
+        }
+        DeriveError::TooManyUnits(count) => write!(f, "TooManyUnits {count}"),
+        DeriveError::IndexTooLarge(size) => write!(f, "IndexTooLarge {size}"),
+        DeriveError::BadRange(place) => write!(f, "BadRange {place}"),
+        DeriveError::BadMagicBytes { value, offset } => {
+            write!(f, "BadMagicBytes {value} {offset}")
+        }
+        DeriveError::SframeTruncated { kind, offset } => {
+            write!(f, "SframeTruncated {kind:?} {offset}")
+        }
+        DeriveError::SframeTooLarge {
+            kind,
+            needed,
+            limit,
+        } => write!(f, "SframeTooLarge {kind:?} {needed} {limit}"),
+        DeriveError::SframeAddressRange { function, value } => {
+            write!(f, "SframeAddressRange {function} {value}")
+        }
         DeriveError::NoMemory => write!(f, "NoMemory"),
     }
 }

@@ -1,0 +1,5 @@
+use Rattle.derivation.proofs.Phases.{no_refusal}
+use Rattle.derivation.proofs.laws.valid_has_no_cause.Goals as goal
+
+pub returns : goal.returns
+returns c = no_refusal
