@@ -1,5 +1,5 @@
 mod Parsing
-mod Phases
+pub mod Phases
 mod Refusing
 mod Indexing
 mod NoUnits

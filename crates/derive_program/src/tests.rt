@@ -103,7 +103,13 @@ fn objects_without_tables(rt: HostRuntime) -> Result<(), Fail> {
     let cut = [255, 255, 255, 255, 0, 0, 0, 0];
     let long = [9, 0, 0, 0, 0, 0, 0, 0, 0, 0, 0, 0];
     for (kind, machine, info, names, line) in [
-        (1, 62, UNIT.as_slice(), b"1".as_slice(), "derive: NotBuilt"),
+        (
+            1,
+            62,
+            UNIT.as_slice(),
+            b"1".as_slice(),
+            "derive: BadPubnames 0 2",
+        ),
         (
             1,
             62,
