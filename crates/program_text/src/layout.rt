@@ -2,7 +2,7 @@
 //!
 //! An empty line and a line that begins with `#` are skipped. The others are `place OBJECT SECTION ADDRESS SIZE`, `range START STOP` or
 //! `base ADDRESS`, the last at most once. The last line may lack its line feed.
-ghost use Rattle.std.specs.Prelude.{◌≡◌, ◌++◌, false, true, is_some, IfErr, OnOk, MatchResult};
+ghost use Rattle.std.specs.Prelude.{◌≡◌, ◌++◌, false, is_some, IfErr, OnOk, MatchResult};
 ghost use Rattle.std.specs.Option.{option_or};
 ghost use Rattle.program_text.specs.declared.layout.LayoutError.TheVariants.{NoMemory};
 ghost use Rattle.program_text.specs.Layout.{placements_in, ranges_in, base_in, is_wrong, IsWrongAt, layout_of, IsErrorOf};

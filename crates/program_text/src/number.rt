@@ -1,7 +1,7 @@
 //! Decimal numbers of the layout: below 2^64, without needless zeros.
 //!
 //! Each number has one text, so a word that is read is exactly what a number is written as.
-ghost use Rattle.std.specs.Prelude.{◌≡◌, ◌↔◌, ◌<◌, ◌^◌, ℕ, List, Some, decimal};
+ghost use Rattle.std.specs.Prelude.{◌≡◌};
 ghost use Rattle.program_text.specs.Number.{number_of};
 
 /// The number that a word writes; none where it writes none.
