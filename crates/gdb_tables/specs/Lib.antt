@@ -3,11 +3,11 @@ pub mod Marks
 pub mod Section
 pub mod Scan
 pub mod PlacedIn
+pub mod Misplaced
+pub mod Addresses
 pub mod Cause
 pub mod Gathered
 pub mod Scanned
 pub mod Merged
 pub mod Files
 pub mod Sized
-pub mod Misplaced
-pub mod Addresses
