@@ -3,7 +3,9 @@ use Rattle.std.proofs.Common.{◌≡◌, ℕ, zero, suc, ◌+◌, ◌≤◌, Boo
 use Rattle.std.specs.Prelude.{slice_get, find}
 use Rattle.std.specs.List.{list_any}
 use Rattle.std.specs.Option.{option_or}
+use Rattle.std.proofs.Math.Seq.{drop-cons}
 use Rattle.std.proofs.lemmas.List.{drop_all}
+use Rattle.std.proofs.lemmas.Option.{slice_get_within, get_or_from_slice_get}
 use Rattle.elf_format.specs.declared.crel.Crel.{Crel}
 use Rattle.elf_format.specs.Class.{Class}
 use Rattle.elf_format.specs.Symbol.{Place, nowhere, in_section, missing}
@@ -16,14 +18,9 @@ use Rattle.gdb_addresses.specs.declared.error.MapError.TheVariants.{Elf, NoMemor
 use Rattle.gdb_addresses.specs.Cause.{IsSymbolCause}
 use Rattle.gdb_addresses.specs.Told.{told_by_place, told_by, told_in, lacks_symbol}
 
-front_suc : {X : Type 0} (xs : List X) (i : ℕ) (x : X) → slice_get xs i ≡ Some x → drop i xs ≡ x ∷ drop (suc i) xs
-front_suc [] zero x e = cc
-front_suc [] (suc i) x e = cc
-front_suc (y ∷ ys) zero x e = cc
-front_suc (y ∷ ys) (suc i) x e = front_suc ys i x e
-
-front : {X : Type 0} (xs : List X) (i : ℕ) (x : X) → slice_get xs i ≡ Some x → drop i xs ≡ x ∷ drop (i + 1) xs
-front xs i x e = rw add-one (front_suc xs i x e)
+-- the list from an item on
+pub front : {X : Type 0} (xs : List X) (i : ℕ) (x : X) → slice_get xs i ≡ Some x → drop i xs ≡ x ∷ drop (i + 1) xs
+front xs i x e = drop-cons xs i x (slice_get_within xs i x e) ∙ ap (λ y. y ∷ drop (suc i) xs) (get_or_from_slice_get xs i x x e) ∙ ap (λ n. x ∷ drop n xs) (sym (add-one i))
 
 no_front_suc : {X : Type 0} (xs : List X) (i : ℕ) → slice_get xs i ≡ None → drop i xs ≡ drop (suc i) xs
 no_front_suc [] zero e = refl

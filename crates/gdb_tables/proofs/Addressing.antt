@@ -1,17 +1,17 @@
 -- The entries of all objects, one object after another.
-use Rattle.std.proofs.Common.{◌≡◌, ℕ, zero, suc, ◌+◌, ◌^◌, ◌<◌, ◌≤◌, Bool, true, false, ltb, eqb, ◌&&◌, List, [], ◌∷◌, ◌++◌, length, take, drop, get_or, map, Some, None, refl, sym, ap, subst, ◌∙◌, arith, inl, inr, add-one}
+use Rattle.std.proofs.Common.{◌≡◌, ℕ, zero, suc, ◌+◌, ◌^◌, ◌<◌, ◌≤◌, Bool, true, false, ltb, eqb, ◌&&◌, List, [], ◌∷◌, ◌++◌, length, take, drop, get_or, map, Some, None, refl, sym, ap, subst, ◌∙◌, arith, inl, inr}
 use Rattle.std.specs.Prelude.{slice_get, option_map}
 use Rattle.std.specs.Option.{option_or}
 use Rattle.std.specs.List.{All, filter}
 use Rattle.std.specs.List.Sorted.{IsNonDecreasingBy}
-use Rattle.std.proofs.Math.Seq.{drop-cons}
 use Rattle.std.proofs.lemmas.Bool.{cases_lt, cond-true, cond-false, ltb-true, lt-ltb, eqb-true, eq-eqb, false_from_ne_true}
 use Rattle.std.proofs.lemmas.List.{length-append, length-map, map-append}
 use Rattle.std.proofs.lemmas.List.Elements.{filter-append, All-filter}
-use Rattle.std.proofs.lemmas.Option.{slice_get-get_or, slice_get_within, get_or_from_slice_get}
+use Rattle.std.proofs.lemmas.Option.{slice_get-get_or}
 use Rattle.elf_format.specs.Class.{Class}
 use Rattle.elf_format.specs.Section.{sections}
 use Rattle.elf_view.specs.Parsed.{Parsed}
+use Rattle.gdb_addresses.proofs.Telling.{front}
 use Rattle.gdb_index_format.specs.declared.placement.Placement.{Placement}
 use Rattle.gdb_index_format.specs.declared.placement.AddressEntry.{AddressEntry}
 use Rattle.gdb_index_format.specs.Published.{Object, units_in_objects, units_of_all}
@@ -180,12 +180,9 @@ units_of_some (x ∷ os) (suc i) = omega (arith, length-append x.units (units_in
 pub room_at : (os : List Object) (i first : ℕ) (o : Object) → slice_get os i ≡ Some o → first ≡ length (units_in_objects (take i os)) → length (units_of_all os) ≤ 2 ^ 24 → first + length o.units ≤ 2 ^ 24
 room_at os i first o e is few = omega (arith, units_next os i o e, units_of_some os (i + 1), length-placed 0 (units_in_objects os))
 
-drop_here : {X : Type 0} (xs : List X) (i : ℕ) (x : X) → slice_get xs i ≡ Some x → drop i xs ≡ x ∷ drop (i + 1) xs
-drop_here xs i x e = drop-cons xs i x (slice_get_within xs i x e) ∙ ap (λ y. y ∷ drop (suc i) xs) (get_or_from_slice_get xs i x x e) ∙ ap (λ n. x ∷ drop n xs) (sym (add-one i))
-
 module _ (c : Class) (files : List Parsed) (os : List Object) (object : ℕ) (f : Parsed) (o : Object) (file : slice_get files object ≡ Some f) (held : slice_get os object ≡ Some o) where
   faults_here : fault_from object c (drop object files) (drop object os) ≡ option_or (option_map (λ e. (object, e)) (unit_relocation_fault c f.is_dynamic f.bytes o.units)) (fault_from (object + 1) c (drop (object + 1) files) (drop (object + 1) os))
-  faults_here = ap (λ fs. fault_from object c fs (drop object os)) (drop_here files object f file) ∙ ap (λ xs. fault_from object c (f ∷ drop (object + 1) files) xs) (drop_here os object o held)
+  faults_here = ap (λ fs. fault_from object c fs (drop object os)) (front files object f file) ∙ ap (λ xs. fault_from object c (f ∷ drop (object + 1) files) xs) (front os object o held)
 
 pub added_more : (c : Class) (files : List Parsed) (os : List Object) (ps : List Placement) (object first : ℕ) (old new : List AddressEntry) (f : Parsed) (o : Object) (count : ℕ) → ArePlacedIn c (bytes_of files) ps → object < length files → f ≡ get_or files object f → slice_get os object ≡ Some o → count ≡ length o.units → new ≡ old ++ entries_of c f first o.units (of_object object ps) → unit_relocation_fault c f.is_dynamic f.bytes o.units ≡ None → Added c files os ps object first old → Added c files os ps (object + 1) (first + count) new
 added_more c files os ps object first old new f o count placed l is held counted more sound before = record {

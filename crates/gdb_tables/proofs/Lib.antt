@@ -3,6 +3,10 @@ pub mod Marking
 pub mod Pairing
 pub mod SectionSearch
 pub mod Windows
+pub mod Misplacing
+pub mod Adjoining
+pub mod Picking
+pub mod Addressing
 pub mod Causes
 pub mod Gathering
 pub mod Sounding
@@ -14,7 +18,3 @@ pub mod Weighing
 pub mod Counting
 pub mod IndexSizes
 pub mod OneCause
-pub mod Misplacing
-pub mod Adjoining
-pub mod Picking
-pub mod Addressing

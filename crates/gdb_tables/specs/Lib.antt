@@ -3,6 +3,8 @@ pub mod Marks
 pub mod Section
 pub mod Scan
 pub mod PlacedIn
+pub mod Misplaced
+pub mod Addresses
 pub mod Cause
 pub mod Gathered
 pub mod Scanned
@@ -10,5 +12,3 @@ pub mod Merged
 pub mod Files
 pub mod Sized
 pub mod Laws
-pub mod Misplaced
-pub mod Addresses

@@ -1,8 +1,10 @@
 //! Gathers what the objects of a program hold for one `.gdb_index` (GDB manual, "Index Section Format"): the
-//! scan of an object, the merge of all scans, and the size of the index. With the calls of the crates below,
-//! which are found here too, an index is then written and read.
+//! scan of an object, the merge of all scans, the size of the index, and the entries of its address area. With
+//! the calls of the crates below, which are found here too, an index is then written and read.
 #![tactic(auto)]
 
+#[cfg(test)]
+mod address_tests;
 mod addresses;
 mod ascending;
 mod error;
