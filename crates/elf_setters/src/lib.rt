@@ -6,6 +6,7 @@
 mod compression_header;
 mod dynamic;
 mod file_header;
+mod laws;
 mod note_header;
 mod program_header;
 mod put;
@@ -18,6 +19,10 @@ pub use compression_header::WritableCompressionHeader;
 pub use dynamic::WritableDynamicEntry;
 pub use elf_words::{Field, FieldError};
 pub use file_header::WritableFileHeader;
+pub use laws::{
+    class_64_refuses_nothing, halves_of_info_are_read_again, nothing_else_changes,
+    numbers_are_read_again, signed_numbers_are_read_again,
+};
 pub use note_header::WritableNoteHeader;
 pub use program_header::WritableProgramHeader;
 pub use rela::WritableRela;
