@@ -29,3 +29,6 @@ pub use rela::WritableRela;
 pub use relr::WritableRelr;
 pub use section_header::WritableSectionHeader;
 pub use symbol::WritableSymbol;
+
+#[cfg(test)]
+mod tests;
