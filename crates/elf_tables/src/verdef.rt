@@ -68,7 +68,7 @@ impl Verdef {
         read_u16(&self.bytes, 4)
     }
 
-    /// How many names the version has, the first of its own and then of those before it.
+    /// How many names it has: its own first, then those of the versions that it extends.
     pub fn vd_cnt(&self) -> u16
         ensures { result ≡ get places.vd_cnt self.now.bytes }
     {

@@ -60,7 +60,7 @@ impl Versym {
         self.vs_value() % 0x8000
     }
 
-    /// Whether the symbol is found by the name of its version alone.
+    /// Whether the symbol is hidden: a reference without a version does not find it.
     pub fn is_hidden(&self) -> bool
         ensures { IsTrue result ↔ (2 ^ 15 ≤ get places.vs_value self.now.bytes) }
     {
