@@ -1,4 +1,6 @@
-//! Setters of the header in front of a compressed section's bytes (gABI, Section Compression).
+//! Setters of the header in front of a compressed section's bytes (gABI, Section Compression), for both classes.
+//! Each puts its number into its field and leaves all other bytes; where class 32 has no room for a number, the
+//! setter refuses it and nothing changes.
 
 ghost use Rattle.std.specs.Prelude.{◌≡◌};
 ghost use Rattle.elf_format.specs.Class as places;

@@ -1,4 +1,6 @@
-//! Setters of an entry of the dynamic section (gABI, Dynamic Section).
+//! Setters of an entry of the dynamic section (gABI, Dynamic Section), for both classes. Each puts its number into
+//! its field, a tag in two's complement, and leaves all other bytes; where class 32 has no room for a number, the
+//! setter refuses it and nothing changes.
 
 ghost use Rattle.elf_format.specs.Class as places;
 ghost use Rattle.elf_words.specs.declared.word.Field.TheVariants.{DTag, DVal};

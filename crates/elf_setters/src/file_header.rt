@@ -1,4 +1,6 @@
-//! Setters of the header at the front of a file (gABI, ELF Header).
+//! Setters of the header at the front of a file (gABI, ELF Header), for both classes. Each puts its number into
+//! its field and leaves all other bytes; where class 32 has no room for a number, the setter refuses it and
+//! nothing changes. Places and sizes count bytes.
 
 ghost use Rattle.std.specs.Prelude.{◌≡◌, ℕ, ◌++◌, drop, refl};
 ghost use Rattle.elf_format.specs.Class.{class_byte};

@@ -1,4 +1,5 @@
-//! Setters of the header of a note (gABI, Note Section), which has one form in both classes.
+//! Setters of the header of a note (gABI, Note Section), which has one form in both classes. Each puts its number
+//! into its field and leaves all other bytes. Sizes count bytes.
 
 ghost use Rattle.std.specs.Prelude.{◌≡◌};
 ghost use Rattle.elf_format.specs.Table as places;

@@ -1,4 +1,6 @@
-//! Setters of a relocation with an addend (gABI, Relocation).
+//! Setters of a relocation with an addend (gABI, Relocation), for both classes. Each puts its number into its
+//! field, an addend in two's complement, and leaves all other bytes; where class 32 has no room for a number, the
+//! setter refuses it and nothing changes.
 
 ghost use Rattle.std.specs.Prelude.{◌≡◌, ◌*◌, ◌+◌, ◌<◌, ◌≤◌, Err, IsOk, OnOk, OnErr};
 ghost use Rattle.elf_format.specs.Class as places;

@@ -1,4 +1,5 @@
-//! The setter of a word of a table of relative relocations (gABI, Relocation, RELR).
+//! The setter of a word of a table of relative relocations (gABI, Relocation, RELR), for both classes. Where class
+//! 32 has no room for a number, the setter refuses it and nothing changes. The word is the whole record.
 
 ghost use Rattle.elf_format.specs.Class as places;
 ghost use Rattle.elf_words.specs.declared.word.Field.TheVariants.{Relr};

@@ -1,4 +1,6 @@
-//! Setters of a symbol (gABI, Symbol Table).
+//! Setters of a symbol (gABI, Symbol Table), for both classes. Each puts its number into its field and leaves all
+//! other bytes; where class 32 has no room for a number, the setter refuses it and nothing changes. Binding and
+//! kind share one byte, four bits each.
 
 ghost use Rattle.std.specs.Prelude.{◌≡◌};
 ghost use Rattle.elf_format.specs.Bytes.{get};
