@@ -8,11 +8,63 @@ ghost use Rattle.elf_words.specs.declared.word.Field.TheVariants.{Word};
 
 use crate::little_endian::{read_u32, read_u64};
 
-/// The field that a refused number was for.
+/// The field that a refused number was for, by its name in gABI.
 #[derive(Clone, Copy, Debug, PartialEq, Eq)]
 pub enum Field {
     /// A class's word by itself.
     Word,
+    /// The address at which a program starts.
+    EEntry,
+    /// Where the table of program headers begins.
+    EPhoff,
+    /// Where the table of section headers begins.
+    EShoff,
+    /// Where a segment's bytes begin in the file.
+    POffset,
+    /// A segment's address.
+    PVaddr,
+    /// A segment's physical address.
+    PPaddr,
+    /// How many bytes a segment has in the file.
+    PFilesz,
+    /// How many bytes a segment has in memory.
+    PMemsz,
+    /// A segment's alignment.
+    PAlign,
+    /// A section's flags.
+    ShFlags,
+    /// A section's address.
+    ShAddr,
+    /// Where a section's bytes begin in the file.
+    ShOffset,
+    /// How many bytes a section has.
+    ShSize,
+    /// A section's alignment.
+    ShAddralign,
+    /// The size of a section's records.
+    ShEntsize,
+    /// How many bytes a compressed section has without compression.
+    ChSize,
+    /// The alignment of a compressed section's bytes without compression.
+    ChAddralign,
+    /// A symbol's value.
+    StValue,
+    /// How many bytes a symbol names.
+    StSize,
+    /// The tag of an entry of the dynamic section.
+    DTag,
+    /// The number or address of an entry of the dynamic section.
+    DVal,
+    /// Where a relocation applies.
+    ROffset,
+    /// The symbol in a relocation's info.
+    RInfoSymbol,
+    /// The kind in a relocation's info.
+    RInfoType,
+    /// A relocation's addend.
+    RAddend,
+    /// A word of a table of relative relocations.
+    Relr,
 }
 
 /// Why a number is not put into a field. The record stays as it was.
@@ -20,6 +72,8 @@ pub enum Field {
 pub enum FieldError {
     /// The number is above the field's range.
     DoesNotFit { field: Field, value: u64 },
+    /// The number is below the field's range.
+    Negative { field: Field, value: i64 },
 }
 
 /// A number of a class's width.
