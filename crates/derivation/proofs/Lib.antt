@@ -5,3 +5,4 @@ mod Indexing
 mod NoUnits
 mod Composing
 mod Answering
+mod OneIndex

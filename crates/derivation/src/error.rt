@@ -9,56 +9,71 @@ use gdb_index_format::UnitFault;
 use gdb_tables::GdbError;
 use sframe_format::{LargeKind, SframeFault, TruncatedKind};
 use std::alloc::{AllocError, AllocFailed};
+use thiserror::Error;
 
 /// Why no tables are derived. Objects are named by their place among the objects, from 0, and offsets count bytes.
-#[derive(Clone, Copy, Debug, PartialEq, Eq)]
+#[derive(Clone, Copy, Debug, PartialEq, Eq, Error)]
 pub enum DeriveError {
     /// The span of this place is reversed or ends beyond the buffer.
+    #[error("span {0} does not lie in the buffer")]
     BadSpan(usize),
     /// The object is no relocatable file of the machine, or the bytes of a section that is read leave it.
+    #[error("object {0} is no sound relocatable file of the machine")]
     BadElf(usize, ElfError),
     /// The placement of this place is not behind the one before it by object and section, names an object or a section
     /// that is not there, or ends beyond 64 bits.
+    #[error("placement {0} is out of order, of no section, or ends too high")]
     BadPlacement(usize),
     /// This section of the object is compressed: the lowest of those that are read and are compressed.
+    #[error("a section of object {0} is compressed")]
     CompressedSection(usize, SectionIndex),
     /// No unit begins at this offset of the object's `.debug_info`.
+    #[error("the unit at {offset} of object {object} is not sound")]
     BadUnit {
         object: usize,
         offset: u64,
         fault: UnitFault,
     },
     /// This section of the object is no list of sets of names.
+    #[error("a section of names of object {0} is not sound")]
     BadPubnames(usize, SectionIndex),
     /// So many units are more than the words of an index can number: above 16,777,216.
+    #[error("there are {0} units, more than an index can number")]
     TooManyUnits(u64),
     /// An index of so many bytes is larger than its offsets can count: above 4,294,967,295.
+    #[error("the index would have {0} bytes, more than it can count")]
     IndexTooLarge(u128),
     /// The range of this place is reversed or ends beyond the SFrame bytes.
+    #[error("range {0} does not lie in the SFrame section")]
     BadRange(usize),
     /// The contribution at this offset of the SFrame bytes has this magic, which is another.
+    #[error("the contribution at {offset} begins with {value:#x}")]
     BadMagicBytes {
         value: u16,
         offset: usize,
     },
     /// A part of a contribution ends beyond it: at the contribution's offset, or at its descriptor's for the rows of
     /// a function.
+    #[error("a part of the contribution at {offset} ends beyond it")]
     SframeTruncated {
         kind: TruncatedKind,
         offset: usize,
     },
     /// More is needed than the limit allows: of bytes of the section or of the merged contribution, or of rows.
+    #[error("the SFrame section needs {needed}, above the limit of {limit}")]
     SframeTooLarge {
         kind: LargeKind,
         needed: u128,
         limit: u64,
     },
     /// The start value of the function of this place in the new order does not fit 32 bits.
+    #[error("the start value {value} of function {function} does not fit")]
     SframeAddressRange {
         function: usize,
         value: i128,
     },
     /// Memory was wanted and not had.
+    #[error("out of memory")]
     NoMemory,
 }
 

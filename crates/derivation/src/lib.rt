@@ -12,4 +12,4 @@ mod order;
 
 pub use derive::{Derived, derive_tables};
 pub use error::DeriveError;
-pub use laws::{inside_is_no_bad_span, refused_for_one_cause, valid_has_no_cause};
+pub use laws::{indexes_are_one, inside_is_no_bad_span, refused_for_one_cause, valid_has_no_cause};
