@@ -1,7 +1,7 @@
 //! Damaged objects: each gets the answer that a plain reading of the rules gives.
 
 use crate::plain_rules::first_broken;
-use crate::sample::object;
+use crate::sample::sample;
 use elf_format::ElfError;
 use elf_records64::Class64;
 use elf_view::File;
@@ -17,7 +17,7 @@ fn refusal(bytes: &[u8]) -> Option<ElfError> {
 
 #[test]
 fn an_object_that_is_cut(rt: HostRuntime) -> Result<(), Fail> {
-    let bytes = object(rt.alloc())?;
+    let bytes = sample(rt.alloc())?;
     assert_eq!(rt; refusal(&bytes), None);
     for length in 0..bytes.len() {
         if let Some(front) = bytes.get(..length) {
@@ -30,7 +30,7 @@ fn an_object_that_is_cut(rt: HostRuntime) -> Result<(), Fail> {
 
 #[test]
 fn an_object_with_a_changed_byte(rt: HostRuntime) -> Result<(), Fail> {
-    let mut bytes = object(rt.alloc())?;
+    let mut bytes = sample(rt.alloc())?;
     let mut refused = 0u32;
     for place in 0..bytes.len() {
         for value in [0, 0x7f, 0x80, 0xff] {

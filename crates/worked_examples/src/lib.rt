@@ -1,12 +1,20 @@
 //! Tests that cross crates, each a table of many cases: what the program does on objects as a whole, beside
-//! plain slow readings of the formats that are the tests' own.
+//! values that were worked out by hand and plain slow readings of the formats that are the tests' own.
 #![tactic(auto)]
 
 #[cfg(test)]
 mod faults;
 #[cfg(test)]
+mod frames;
+#[cfg(test)]
+mod object;
+#[cfg(test)]
 mod plain_rules;
 #[cfg(test)]
 mod refusals;
 #[cfg(test)]
+mod reports;
+#[cfg(test)]
 mod sample;
+#[cfg(test)]
+mod tables;

@@ -1,8 +1,12 @@
-//! Objects whose tables are refused before they are read, and one whose tables are derived.
+//! Objects whose tables are refused: for their spans, for placements that do not ascend, and for sections of theirs
+//! that cannot be read.
 
-use crate::sample::object;
-use derivation::{DeriveError, derive_tables};
-use elf_format::{Architecture, SectionIndex, Span};
+use crate::object::{UNIT, object_with_names};
+use crate::sample::sample;
+use crate::tables::derive;
+use derivation::DeriveError;
+use elf_format::{SectionIndex, Span};
+use gdb_index_format::{Placement, UnitFault};
 use std::alloc::Global;
 use std::test::Fail;
 
@@ -15,20 +19,9 @@ fn index_len(
     buffer: &[u8],
     start: usize,
     stop: usize,
+    placements: &[Placement],
 ) -> Result<usize, DeriveError> {
-    if buffer.len() >= 1 << 39 {
-        return Err(DeriveError::NotBuilt);
-    }
-    match derive_tables(
-        alloc,
-        Architecture::X86_64,
-        buffer,
-        &[Span { start, stop }],
-        &[],
-        &[],
-        &[],
-        0,
-    ) {
+    match derive(alloc, buffer, &[Span { start, stop }], placements) {
         Ok(derived) => Ok(derived.index.len()),
         Err(error) => Err(error),
     }
@@ -37,24 +30,48 @@ fn index_len(
 #[test]
 fn spans_and_compressed_sections(rt: HostRuntime) -> Result<(), Fail> {
     let alloc = rt.alloc();
-    let mut bytes = object(alloc)?;
+    let mut bytes = sample(alloc)?;
     let len = bytes.len();
-    assert_eq!(rt; index_len(alloc, &bytes, 0, len), Ok(52));
-    assert_eq!(rt;
-        index_len(alloc, &bytes, 5, 3),
-        Err(DeriveError::BadSpan(0))
-    );
     let past = len.saturating_add(1);
-    assert_eq!(rt;
-        index_len(alloc, &bytes, 0, past),
-        Err(DeriveError::BadSpan(0))
-    );
+    for (start, stop, answer) in [
+        (0, len, Ok(52)),
+        (5, 3, Err(DeriveError::BadSpan(0))),
+        (0, past, Err(DeriveError::BadSpan(0))),
+    ] {
+        assert_eq!(rt; index_len(alloc, &bytes, start, stop, &[]), answer);
+    }
     if let Some(byte) = bytes.get_mut(len.saturating_sub(FLAGS_FROM_END)) {
         *byte = 8;
     }
     assert_eq!(rt;
-        index_len(alloc, &bytes, 0, len),
+        index_len(alloc, &bytes, 0, len, &[]),
         Err(DeriveError::CompressedSection(0, SectionIndex(1)))
+    );
+    Ok(())
+}
+
+#[test]
+fn placements_and_long_units(rt: HostRuntime) -> Result<(), Fail> {
+    let alloc = rt.alloc();
+    let placed = Placement {
+        object: 0,
+        section: 3,
+        address: 4096,
+        size: 16,
+    };
+    let bytes = object_with_names(alloc, &UNIT, &[])?;
+    assert_eq!(rt;
+        index_len(alloc, &bytes, 0, bytes.len(), &[placed, placed]),
+        Err(DeriveError::BadPlacement(1))
+    );
+    let bytes = object_with_names(alloc, &[0xff; 12], &[])?;
+    assert_eq!(rt;
+        index_len(alloc, &bytes, 0, bytes.len(), &[]),
+        Err(DeriveError::BadUnit {
+            object: 0,
+            offset: 0,
+            fault: UnitFault::InvalidLength
+        })
     );
     Ok(())
 }
