@@ -2,22 +2,7 @@
 # Writes a small relocatable object for x86-64 to standard output: a unit of twelve bytes in `.debug_info`, an empty
 # `.debug_gnu_pubnames`, 16 bytes in `.text`, and the names of sections.
 set -eu
-
-# a number in so many bytes, the lowest byte first
-number() {
-  local width=$1 value=$2 i
-  for ((i = 0; i < width; i++)); do
-    printf "\\x$(printf '%02x' $(((value >> (8 * i)) & 255)))"
-  done
-}
-
-zeros() { head -c "$1" /dev/zero; }
-
-# a section header: name, type, flags, offset, size
-section() {
-  number 4 "$1"; number 4 "$2"; number 8 "$3"; number 8 0; number 8 "$4"; number 8 "$5"
-  number 4 0; number 4 0; number 8 1; number 8 0
-}
+. "$(dirname "$0")/bytes.sh"
 
 # the file header: relocatable, x86-64, five section headers from byte 141 on, the last of which holds their names
 printf '\x7fELF\x02\x01\x01'; zeros 9
