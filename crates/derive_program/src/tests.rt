@@ -201,30 +201,31 @@ fn objects_without_tables(rt: HostRuntime) -> Result<(), Fail> {
     Ok(())
 }
 
+/// The two contributions, the first with this magic and with its rows at this place behind all of them.
+fn frames_with(magic: [u8; 2], rows_at: u8) -> [u8; 102] {
+    let mut frames = FRAMES;
+    frames[..2].copy_from_slice(&magic);
+    frames[36] = rows_at;
+    frames
+}
+
 #[test]
 fn layouts_and_frames_without_tables(rt: HostRuntime) -> Result<(), Fail> {
     let alloc = rt.alloc();
     let bytes = object(alloc, 1, 62, &UNIT, &[])?;
     let twice = "place 0 3 4096 16\nplace 0 3 4096 16\n";
-    let mut broken = FRAMES;
-    broken[0] = 0x34;
-    broken[1] = 0x12;
-    let mut cut = FRAMES;
-    cut[36] = 3;
-    for (layout, frames, line) in [
-        (twice, FRAMES.as_slice(), "derive: BadPlacement 1"),
-        ("range 5 3\n", FRAMES.as_slice(), "derive: BadRange 0"),
-        (RANGES, broken.as_slice(), "derive: BadMagicBytes 4660 0"),
-        (
-            RANGES,
-            cut.as_slice(),
-            "derive: SframeTruncated FreOffset 28",
-        ),
+    let magic = [0xe2, 0xde];
+    for (layout, magic, rows_at, line) in [
+        (twice, magic, 0, "derive: BadPlacement 1"),
+        ("range 5 3\n", magic, 0, "derive: BadRange 0"),
+        (RANGES, [0x34, 0x12], 0, "derive: BadMagicBytes 4660 0"),
+        (RANGES, magic, 3, "derive: SframeTruncated FreOffset 28"),
     ] {
+        let frames = frames_with(magic, rows_at);
         let (text, status, written) = outcome(
             alloc,
             "tables x86_64 l --sframe s o",
-            &[("l", layout.as_bytes()), ("s", frames), ("o", &bytes)],
+            &[("l", layout.as_bytes()), ("s", &frames), ("o", &bytes)],
             Vec::new(alloc),
             Vec::new(alloc),
         )?;
