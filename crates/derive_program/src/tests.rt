@@ -1,5 +1,7 @@
 use super::*;
+use elf_format::SectionIndex;
 use program_io::{MemoryFiles, MemorySink};
+use sframe_format::LargeKind;
 use std::alloc::Global;
 use std::test::Fail;
 
@@ -8,6 +10,38 @@ const UNIT: [u8; 12] = [8, 0, 0, 0, 0, 0, 0, 0, 0, 0, 0, 0];
 
 /// The names of the sections of an object.
 const NAMES: &[u8] = b"\0.debug_info\0.debug_gnu_pubnames\0.text\0.shstrtab\0";
+
+/// The report of an object with one unit that publishes `main`, whose code was put at 4096, and of two contributions.
+const REPORT_OF_ALL: &str = "\
+units 1
+unit 0 0 12
+names 1
+name 6d61696e 30000000
+outcome sorted 74
+index 101
+090000001c0000002c0000002c00000040000000500000005800000000000000
+000000000c000000000000000010000000000000101000000000000000000000
+0000000000000000080000000000000000000000000000000100000000000030
+6d61696e00
+sframe 102
+e2de02010300f800020000000200000006000000000000002800000032000000
+1000000000000000010000000000000064000000100000000300000001000000
+00000000b1b2b3a1a2a300000000000000000000000000000000000000000000
+000000000000
+";
+
+/// The set that publishes `main` (GDB manual, "Index Section Format").
+const SET_OF_MAIN: &[u8] = b"\x18\0\0\0\x02\0\0\0\0\0\x0c\0\0\0\x2a\0\0\0\x30main\0\0\0\0\0";
+
+/// Two contributions (SFrame 2), the later function first.
+const FRAMES: [u8; 102] = *b"\
+    \xe2\xde\x02\0\x03\0\xf8\0\x01\0\0\0\x01\0\0\0\x03\0\0\0\0\0\0\0\x14\0\0\0\
+    \x64\0\0\0\x10\0\0\0\0\0\0\0\x01\0\0\0\0\0\0\0\xa1\xa2\xa3\
+    \xe2\xde\x02\0\x03\0\xf8\0\x01\0\0\0\x01\0\0\0\x03\0\0\0\0\0\0\0\x14\0\0\0\
+    \x32\0\0\0\x10\0\0\0\0\0\0\0\x01\0\0\0\0\0\0\0\xb1\xb2\xb3";
+
+/// Where these contributions stand.
+const RANGES: &str = "range 0 51\nrange 51 102\n";
 
 /// The report of an object with one unit.
 const REPORT: &str =
@@ -59,11 +93,11 @@ fn object(
     Ok(object)
 }
 
-/// What a run of words over the files `l`, `p` and `o` comes to: the line, the status, and what was written.
+/// What a run of words over these files comes to: the line, the status, and what was written.
 fn outcome(
     alloc: Global,
     line: &str,
-    object: Vec<u8>,
+    texts: &[(&str, &[u8])],
     reads: Vec<u64>,
     puts: Vec<u64>,
 ) -> Result<(String, u8, Vec<u8>), Fail> {
@@ -72,12 +106,9 @@ fn outcome(
         words.push(String::from_str(alloc, word)?)?;
     }
     let mut held = Vec::new(alloc);
-    held.push((String::from_str(alloc, "l")?, Vec::new(alloc)))?;
-    held.push((
-        String::from_str(alloc, "p")?,
-        b"place 0 3 4096".to_vec(alloc)?,
-    ))?;
-    held.push((String::from_str(alloc, "o")?, object))?;
+    for (name, bytes) in texts {
+        held.push((String::from_str(alloc, name)?, bytes.to_vec(alloc)?))?;
+    }
     let mut files = MemoryFiles::new(held, reads);
     let mut out = MemorySink::new(alloc, puts);
     let ran = run(alloc, &words, &mut files, &mut out);
@@ -86,14 +117,30 @@ fn outcome(
 }
 
 #[test]
-fn an_object_with_one_unit(rt: HostRuntime) -> Result<(), Fail> {
+fn reports(rt: HostRuntime) -> Result<(), Fail> {
     let alloc = rt.alloc();
-    let none = Vec::new(alloc);
-    let one = object(alloc, 1, 62, &UNIT, &[])?;
-    let (text, status, written) = outcome(alloc, "tables x86_64 l o", one, Vec::new(alloc), none)?;
-    assert_eq!(rt; text.as_str(), "derive: Done");
-    assert_eq!(rt; status, 0);
-    assert_eq!(rt; written.as_slice(), REPORT.as_bytes());
+    let all = "# code and frames\nplace 0 3 4096 16\nrange 0 51\nrange 51 102\nbase 8192";
+    for (words, layout, names, report) in [
+        ("tables x86_64 l o", "", b"".as_slice(), REPORT),
+        (
+            "tables x86_64 l --sframe s o",
+            all,
+            SET_OF_MAIN,
+            REPORT_OF_ALL,
+        ),
+    ] {
+        let bytes = object(alloc, 1, 62, &UNIT, names)?;
+        let (text, status, written) = outcome(
+            alloc,
+            words,
+            &[("l", layout.as_bytes()), ("s", &FRAMES), ("o", &bytes)],
+            Vec::new(alloc),
+            Vec::new(alloc),
+        )?;
+        assert_eq!(rt; text.as_str(), "derive: Done");
+        assert_eq!(rt; status, 0);
+        assert_eq!(rt; written.as_slice(), report.as_bytes());
+    }
     Ok(())
 }
 
@@ -143,7 +190,42 @@ fn objects_without_tables(rt: HostRuntime) -> Result<(), Fail> {
         let (text, status, written) = outcome(
             alloc,
             "tables x86_64 l o",
-            bytes,
+            &[("l", b""), ("o", &bytes)],
+            Vec::new(alloc),
+            Vec::new(alloc),
+        )?;
+        assert_eq!(rt; text.as_str(), line);
+        assert_eq!(rt; status, 1);
+        assert_eq!(rt; written.len(), 0);
+    }
+    Ok(())
+}
+
+/// The two contributions, the first with this magic and with its rows at this place behind all of them.
+fn frames_with(magic: [u8; 2], rows_at: u8) -> [u8; 102] {
+    let mut frames = FRAMES;
+    frames[..2].copy_from_slice(&magic);
+    frames[36] = rows_at;
+    frames
+}
+
+#[test]
+fn layouts_and_frames_without_tables(rt: HostRuntime) -> Result<(), Fail> {
+    let alloc = rt.alloc();
+    let bytes = object(alloc, 1, 62, &UNIT, &[])?;
+    let twice = "place 0 3 4096 16\nplace 0 3 4096 16\n";
+    let magic = [0xe2, 0xde];
+    for (layout, magic, rows_at, line) in [
+        (twice, magic, 0, "derive: BadPlacement 1"),
+        ("range 5 3\n", magic, 0, "derive: BadRange 0"),
+        (RANGES, [0x34, 0x12], 0, "derive: BadMagicBytes 4660 0"),
+        (RANGES, magic, 3, "derive: SframeTruncated FreOffset 28"),
+    ] {
+        let frames = frames_with(magic, rows_at);
+        let (text, status, written) = outcome(
+            alloc,
+            "tables x86_64 l --sframe s o",
+            &[("l", layout.as_bytes()), ("s", &frames), ("o", &bytes)],
             Vec::new(alloc),
             Vec::new(alloc),
         )?;
@@ -176,10 +258,49 @@ fn runs_that_fail(rt: HostRuntime) -> Result<(), Fail> {
         let bytes = object(alloc, 1, 62, &UNIT, &[])?;
         let reads = [read].to_vec(alloc)?;
         let puts = [put].to_vec(alloc)?;
-        let (text, status, written) = outcome(alloc, words, bytes, reads, puts)?;
+        let texts: [(&str, &[u8]); 3] = [("l", b""), ("p", b"place 0 3 4096"), ("o", &bytes)];
+        let (text, status, written) = outcome(alloc, words, &texts, reads, puts)?;
         assert_eq!(rt; text.as_str(), line);
         assert_eq!(rt; status, code);
         assert_eq!(rt; written.len(), length);
+    }
+    Ok(())
+}
+
+#[test]
+fn printed_errors(rt: HostRuntime) -> Result<(), Fail> {
+    for (error, line) in [
+        (DeriveError::BadSpan(0), "derive: BadSpan 0"),
+        (
+            DeriveError::CompressedSection(0, SectionIndex(1)),
+            "derive: CompressedSection 0 1",
+        ),
+        (
+            DeriveError::TooManyUnits(16_777_217),
+            "derive: TooManyUnits 16777217",
+        ),
+        (
+            DeriveError::IndexTooLarge(4_294_967_296),
+            "derive: IndexTooLarge 4294967296",
+        ),
+        (
+            DeriveError::SframeTooLarge {
+                kind: LargeKind::Merged,
+                needed: 74,
+                limit: 71,
+            },
+            "derive: SframeTooLarge Merged 74 71",
+        ),
+        (
+            DeriveError::SframeAddressRange {
+                function: 1,
+                value: -2_147_483_649,
+            },
+            "derive: SframeAddressRange 1 -2147483649",
+        ),
+    ] {
+        let text = Ran::Refused(error).to_string(rt.alloc())?;
+        assert_eq!(rt; text.as_str(), line);
     }
     Ok(())
 }

@@ -13,6 +13,9 @@ use std::test::Fail;
 /// How far the second byte of the flags of section 1 stands before the end of the object.
 const FLAGS_FROM_END: usize = 439;
 
+/// So many bytes of zero are a unit of four bytes more than an index can number.
+const TOO_MANY_UNITS: usize = 67_108_868;
+
 /// How long the index of one object is that is a span of the buffer, or why there is none.
 fn index_len(
     alloc: Global,
@@ -72,6 +75,18 @@ fn placements_and_long_units(rt: HostRuntime) -> Result<(), Fail> {
             offset: 0,
             fault: UnitFault::InvalidLength
         })
+    );
+    Ok(())
+}
+
+#[test]
+fn more_units_than_numbers(rt: HostRuntime) -> Result<(), Fail> {
+    let alloc = rt.alloc();
+    let units = vec![in alloc; 0u8; TOO_MANY_UNITS]?;
+    let bytes = object_with_names(alloc, &units, &[])?;
+    assert_eq!(rt;
+        index_len(alloc, &bytes, 0, bytes.len(), &[]),
+        Err(DeriveError::TooManyUnits(16_777_217))
     );
     Ok(())
 }
