@@ -1,11 +1,13 @@
 #!/usr/bin/env bash
 # Counts the instructions that `derive` spends on the objects of FOLDER, reading and printing included, beside those that
 # lld spends on its own index of them: `bench/beside_lld.sh DERIVE FOLDER`, with FOLDER as `bench/compiled_objects.sh`
-# makes it. Those of lld are the difference between linking with `--gdb-index` and without, on one thread.
-set -eu
+# makes it. Those of lld are the difference between linking with `--gdb-index` and without, on one thread. The names and
+# words of both are compared.
+set -euo pipefail
 derive=$1
 folder=$2
-for tool in valgrind ld.lld; do
+here=$(cd "$(dirname "$0")" && pwd)
+for tool in valgrind ld.lld python3; do
   command -v "$tool" >/dev/null || { echo "no $tool" >&2; exit 1; }
 done
 work=$(mktemp -d)
@@ -20,7 +22,8 @@ instructions() {
 link() { instructions ld.lld --threads=1 -e 0 --unresolved-symbols=ignore-all "$@" -o "$work/linked" "$folder"/*.o; }
 
 derived=$(instructions "$derive" tables x86_64 "$folder/layout" "$folder"/*.o)
-with=$(link --gdb-index)
 without=$(link)
+with=$(link --gdb-index)
 index=$((with - without))
 echo "derive $derived, lld's index $index ($with with it, $without without), in the hundred: $((100 * derived / index))"
+"$derive" tables x86_64 "$folder/layout" "$folder"/*.o | python3 "$here/same_as_lld.py" "$work/linked"

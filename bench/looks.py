@@ -66,4 +66,5 @@ def main():
           f"in the mean, {max(counts)} at most")
 
 
-main()
+if __name__ == "__main__":
+    main()

@@ -163,11 +163,11 @@ def main(words):
     folder = pathlib.Path(words[0])
     folder.mkdir(parents=True, exist_ok=True)
     files, layout, frames = KINDS[words[1]][0](*map(int, words[2:]))
-    (folder / "layout").write_text(layout)
     for number, file in enumerate(files):
         (folder / f"{number:05}.o").write_bytes(file)
     if frames:
         (folder / "sframe").write_bytes(frames)
+    (folder / "layout").write_text(layout)
 
 
 main(sys.argv[1:])

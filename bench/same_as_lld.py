@@ -1,0 +1,51 @@
+#!/usr/bin/env python3
+"""Whether a report has the names and the words that lld's index has: `bench/same_as_lld.py LINKED <REPORT`.
+
+LINKED is what `ld.lld --gdb-index` made of the same objects in the same order, and REPORT what `derive tables` writes.
+"""
+
+import struct
+import sys
+
+sys.dont_write_bytecode = True
+
+from looks import read_report
+
+
+def section_of(data, wanted):
+    """The bytes of the section of a name (System V gABI, "Sections"), in a file of class 64."""
+    table, = struct.unpack_from("<Q", data, 40)
+    count, names = struct.unpack_from("<HH", data, 60)
+    headers = [struct.unpack_from("<IIQQQQ", data, table + 64 * number) for number in range(count)]
+    for header in headers:
+        start = headers[names][4] + header[0]
+        if data[start:start + len(wanted) + 1] == wanted + b"\0":
+            return data[header[4]:header[4] + header[5]]
+    sys.exit(f"no section {wanted.decode()}")
+
+
+def names_of(index):
+    """The names of an index of version 7 or 8, each with its words (GDB manual, "Index Section Format")."""
+    table, pool = struct.unpack_from("<II", index, 16)
+    names = {}
+    for slot in range(table, pool, 8):
+        text, vector = struct.unpack_from("<II", index, slot)
+        if text != 0 or vector != 0:
+            name = index[pool + text:index.index(b"\0", pool + text)]
+            count, = struct.unpack_from("<I", index, pool + vector)
+            names[name] = struct.unpack_from(f"<{count}I", index, pool + vector + 4)
+    return names
+
+
+def main():
+    if len(sys.argv) != 2:
+        sys.exit(__doc__)
+    with open(sys.argv[1], "rb") as file:
+        expected = names_of(section_of(file.read(), b".gdb_index"))
+    names = dict(read_report(sys.stdin)[0])
+    if names != expected:
+        sys.exit(f"{len(names)} names, and {len(expected)} in lld's index, or other words")
+    print(f"{len(names)} names, each with the words that it has in lld's index")
+
+
+main()
