@@ -7,6 +7,7 @@ use Rattle.std.proofs.Math.Nat.{pow-suc, pow-succ', mod-eq_of_lt}
 use Rattle.std.proofs.lemmas.Nat.{pow-add, pow_pos}
 use Rattle.std.proofs.lemmas.List.{length-append, length-take-le, length-drop, get_or-take, get_or-drop, get_or_append_left, get_or-append_right}
 use Rattle.elf_format.specs.Bytes.{le, Field, get}
+use Rattle.elf_format.proofs.NumberLemmas.{numbers_are_same}
 use Rattle.elf_setters.specs.Put.{with_field}
 
 length_low_first : (i k n : ℕ) → length (bytes_low_first i k n) ≡ k
@@ -39,14 +40,6 @@ le_of_bytes b at n (suc k) h =
     ∙ add_comm (n % 256 ^ k) (n / 256 ^ k % 256 * 256 ^ k)
     ∙ sym (mod-mul n {m = 256} {c = 256 ^ k} (omega arith) (power_above_0 k))
     ∙ ap (λ (m : ℕ). n % m) (sym (pow-succ' 256 k))
-
--- a number depends on its own bytes alone
-le_of_same : (a b : List ℕ) (at k : ℕ) → ((i : ℕ) → i < k → slice_index a (at + i) ≡ slice_index b (at + i)) → le a at k ≡ le b at k
-unfolding le
-le_of_same a b at zero h = refl
-le_of_same a b at (suc k) h =
-    ap (λ (x : ℕ). x + slice_index a (at + k) * 256 ^ k) (le_of_same a b at k (λ i l. h i (omega arith)))
-    ∙ ap (λ (x : ℕ). le b at k + x * 256 ^ k) (h k (omega arith))
 
 front_length : (field : Field) (value : ℕ) (bytes : List ℕ) → field.at + field.width ≤ length bytes → length (take field.at bytes ++ bytes_low_first 0 field.width value) ≡ field.at + field.width
 front_length field value bytes room =
@@ -98,6 +91,6 @@ get_it_with_field field value bytes room fits =
 
 pub get_other_with_field : (field other : Field) (value : ℕ) (bytes : List ℕ) → field.at + field.width ≤ length bytes → (other.at + other.width ≤ field.at) ⊎ (field.at + field.width ≤ other.at) → get other (with_field field value bytes) ≡ get other bytes
 get_other_with_field field other value bytes room (inl before) =
-    le_of_same (with_field field value bytes) bytes other.at other.width (λ i below. byte_outside field value bytes (other.at + i) room (inl (omega arith)))
+    numbers_are_same (with_field field value bytes) bytes other.at other.at other.width (λ i below. byte_outside field value bytes (other.at + i) room (inl (omega arith)))
 get_other_with_field field other value bytes room (inr behind) =
-    le_of_same (with_field field value bytes) bytes other.at other.width (λ i below. byte_outside field value bytes (other.at + i) room (inr (omega arith)))
+    numbers_are_same (with_field field value bytes) bytes other.at other.at other.width (λ i below. byte_outside field value bytes (other.at + i) room (inr (omega arith)))

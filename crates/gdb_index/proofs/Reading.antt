@@ -13,7 +13,7 @@ use Rattle.gdb_index_format.specs.Slots.{slot_of}
 use Rattle.gdb_index_format.specs.declared.bad_index.BadIndex.{BadIndex}
 use Rattle.gdb_index_format.specs.declared.bad_index.BadIndex.TheVariants.{VectorOutside}
 use Rattle.gdb_index.specs.Vector.{words_in}
-use Rattle.gdb_index.proofs.Places.{le-part}
+use Rattle.elf_format.proofs.NumberLemmas.{number_in_part}
 
 pub length_words_in : (bytes : List ℕ) → length (words_in bytes) ≡ length bytes / 4
 unfolding words_in
@@ -35,7 +35,7 @@ words_in-part b at count n whole len =
     (λ k d l.
     let below : k < count = omega (arith, length-map-range_with_len (λ (k : ℕ). u32_at b (at + 4 + 4 * k)) 0 count) in
     get_or-map-range_with_len (λ (j : ℕ). u32_at b (at + 4 + 4 * j)) 0 count k k d below (omega arith)
-    ∙ sym (le-part b (at + 4) n (4 * k) 4 (omega arith))
+    ∙ sym (number_in_part b (at + 4) n (4 * k) 4 (omega arith))
     ∙ sym (get_or-words_in part k d (omega (arith, len, whole))))
 
 -- ---- a probe, look by look

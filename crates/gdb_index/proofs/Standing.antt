@@ -9,11 +9,10 @@ use Rattle.std.proofs.lemmas.List.{length-append, drop_at, take_at, get_or_at, g
 use Rattle.std.proofs.lemmas.List.Sums.{sum_by-cons, position_or_len_is}
 use Rattle.std.proofs.lemmas.List.FromFn.{length-map-range_with_len, get_or-map-range_with_len}
 use Rattle.elf_format.specs.Bytes.{le, u32_at, u64_at, string_at}
-use Rattle.elf_format.proofs.NumberLemmas.{u32_is_sum, u64_is_sum}
+use Rattle.elf_format.proofs.NumberLemmas.{u32_is_sum, u64_is_sum, numbers_are_same}
 use Rattle.gdb_index_format.specs.Probe.{vector_at}
 use Rattle.gdb_index_format.specs.declared.bad_index.BadIndex.TheVariants.{VectorOutside}
 use Rattle.gdb_index.specs.Layout.{u32s_bytes}
-use Rattle.gdb_index.proofs.Places.{le-same}
 use Rattle.gdb_index.proofs.Reading.{vector_words}
 
 pub record StandsAt (b : List ℕ) (at : ℕ) (bytes : List ℕ) : Type 0 where
@@ -54,7 +53,7 @@ byte_at b at bytes k s l =
 -- a number within the bytes that stand there
 pub le-within : (b : List ℕ) (at : ℕ) (bytes : List ℕ) (k width : ℕ) → StandsAt b at bytes → k + width ≤ length bytes → le b (at + k) width ≡ le bytes k width
 le-within b at bytes k width s l =
-    le-same b bytes (at + k) k width (λ i below. ap (λ (n : ℕ). get_or b n 0) (regroup at k i) ∙ byte_at b at bytes (k + i) s (omega arith)) where
+    numbers_are_same b bytes (at + k) k width (λ i below. ap (λ (n : ℕ). get_or b n 0) (regroup at k i) ∙ byte_at b at bytes (k + i) s (omega arith)) where
       regroup : (a b c : ℕ) → a + b + c ≡ a + (b + c)
       regroup a b c = omega arith
 
