@@ -25,7 +25,7 @@ use crate::index_entry::IndexEntry;
 use crate::reloc_error::RelocError;
 use crate::relocation_list::{list_of_section, no_relocations};
 use crate::relocation_sections::RelocationSections;
-use crate::section::{bytes_of_section, string_at};
+use crate::section::{bytes_of_section, is_string_at, string_at};
 use crate::section_table::{read_section_headers, read_section_names};
 use crate::symbol::are_symbols_sound;
 use crate::symbol_table::{find_symbol_table, read_section_indexes, read_symbols};
@@ -189,9 +189,17 @@ impl<'a, C: ElfClass> File<'a, C> {
     fn is_named(&self, header: &C::SectionHeader, name: &[u8]) -> bool
         ensures { result ≡ is_name name.now (section_name C.class self.now.bytes (C.SectionHeader.contents header.now)) }
     {
-        match string_at(self.names, header.sh_name() as usize) {
-            Some(found) => found == name,
-            None => false,
+        is_string_at(self.names, header.sh_name() as usize, name)
+    }
+
+    /// Whether there is a section at an index, and its name can be read and is this one. The bytes of its name
+    /// are compared no farther than this name goes, however long it is.
+    pub fn has_name(&self, index: SectionIndex, name: &[u8]) -> bool
+        ensures { result ≡ is_name name.now (option_and_then (section_name C.class self.now.bytes) (slice_get (sections C.class self.now.bytes) index.0)) }
+    {
+        match self.section(index) {
+            Ok(header) => self.is_named(&header, name),
+            Err(_) => false,
         }
     }
 

@@ -1,8 +1,8 @@
 //! A section's bytes, and strings in them (gABI, Sections and String Table).
 
-ghost use Rattle.std.specs.Prelude.{◌≡◌, ◌==◌, ◌<◌, position, length, IfSome, option_copied};
+ghost use Rattle.std.specs.Prelude.{◌≡◌, ◌==◌, ◌<◌, position, length, take, IfSome, option_copied};
 ghost use Rattle.elf_format.specs.Bytes;
-ghost use Rattle.elf_format.specs.Section.{section_bytes};
+ghost use Rattle.elf_format.specs.Section.{section_bytes, is_name};
 
 use elf_words::{Record, SHT_NOBITS, SectionHeaderFields, first_zero};
 
@@ -27,4 +27,32 @@ pub fn string_at(strings: &[u8], place: usize) -> Option<&[u8]>
     let tail = strings.get(place..)?;
     let length = first_zero(tail)?;
     Some(&tail[..length])
+}
+
+/// At most so many bytes from the front.
+fn front_of(bytes: &[u8], count: usize) -> &[u8]
+    ensures { result.now ≡ take count bytes.now }
+{
+    &bytes[..bytes.len().min(count)]
+}
+
+/// Whether a string was found, and it is this one.
+fn is_found(found: Option<&[u8]>, wanted: &[u8]) -> bool
+    ensures { result ≡ is_name wanted.now (option_copied found.entry) }
+{
+    match found {
+        Some(name) => name == wanted,
+        None => false,
+    }
+}
+
+/// Whether the string at a place is this one. No more bytes are looked at than it has, and one more.
+#[tactic(auto, using(crate::proofs::NameLemmas::front_tells), unfolding(elf_format::specs::Bytes::string_at))]
+pub fn is_string_at(strings: &[u8], place: usize, wanted: &[u8]) -> bool
+    ensures { result ≡ is_name wanted.now (Bytes.string_at strings.now place) }
+{
+    match strings.get(place..) {
+        Some(tail) => is_found(string_at(front_of(tail, wanted.len() + 1), 0), wanted),
+        None => false,
+    }
 }

@@ -44,6 +44,7 @@ fn the_sections_of_an_object(rt: HostRuntime) {
             matches!(found, Ok(bytes) if bytes == name.as_bytes()),
             "{name}"
         );
+        assert!(rt; file.has_name(SectionIndex(index), name.as_bytes()), "{name}");
         let Ok(header) = file.section(SectionIndex(index)) else {
             return assert!(rt; false);
         };
@@ -59,6 +60,10 @@ fn the_sections_of_an_object(rt: HostRuntime) {
     }
     assert!(rt; file.section_by_name(".bss").is_none());
     assert!(rt; file.section_name(SectionIndex(5)) == Err(ElfError::SectionTable));
+    for name in [".tex", ".text\0", ".text\0.shstrtab", ""] {
+        assert!(rt; !file.has_name(SectionIndex(3), name.as_bytes()), "{name}");
+    }
+    assert!(rt; !file.has_name(SectionIndex(5), b""));
     assert!(rt; file.num_symbols() == 0);
     assert!(rt; matches!(file.symbol(SymbolIndex(0)), Err(ElfError::SymbolIndex)));
     for (index, header) in file.enumerate_sections() {
