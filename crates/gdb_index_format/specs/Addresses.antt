@@ -36,13 +36,13 @@ unfoldable pub unit_relocations : Class → List ℕ → Result (List Crel) ElfE
 unit_relocations c file = records_in c file (relocation_header c file)
 
 -- where the symbol of a relocation stands: symbol 0 is none
-abbrev pub place_of : Class → Bool → List ℕ → ℕ → Option (List ℕ) → Place
-place_of c is_dynamic file index None = missing
-place_of c is_dynamic file index (Some symbol) = section_of_symbol c is_dynamic file symbol index
+abbrev pub place_by_symbol : Class → Bool → List ℕ → ℕ → Option (List ℕ) → Place
+place_by_symbol c is_dynamic file index None = missing
+place_by_symbol c is_dynamic file index (Some symbol) = section_of_symbol c is_dynamic file symbol index
 
 abbrev pub symbol_place : Class → Bool → List ℕ → ℕ → Place
 symbol_place c is_dynamic file zero = nowhere
-symbol_place c is_dynamic file (suc index) = place_of c is_dynamic file (suc index) (slice_get (symbols c is_dynamic file) (suc index))
+symbol_place c is_dynamic file (suc index) = place_by_symbol c is_dynamic file (suc index) (slice_get (symbols c is_dynamic file) (suc index))
 
 abbrev pub is_missing : Place → Bool
 is_missing nowhere = false
