@@ -20,8 +20,7 @@ const DEBUG_INFO: &str = ".debug_info";
 pub fn is_names_section<C: ElfClass>(file: &File<'_, C>, index: SectionIndex) -> bool
     ensures { (header : List ℕ) → slice_get (sections C.class file.now.bytes) index.0 ≡ Some header → result ≡ objects.is_names_section C.class file.now.bytes header }
 {
-    file.has_name(index, b".debug_gnu_pubnames")
-        || file.has_name(index, b".debug_gnu_pubtypes")
+    file.has_name(index, b".debug_gnu_pubnames") || file.has_name(index, b".debug_gnu_pubtypes")
 }
 
 /// Whether the section at an index is one of those that are read.

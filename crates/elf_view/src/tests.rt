@@ -44,7 +44,10 @@ fn the_sections_of_an_object(rt: HostRuntime) {
             matches!(found, Ok(bytes) if bytes == name.as_bytes()),
             "{name}"
         );
-        assert!(rt; file.has_name(SectionIndex(index), name.as_bytes()), "{name}");
+        assert!(rt;
+            file.has_name(SectionIndex(index), name.as_bytes()),
+            "{name}"
+        );
         let Ok(header) = file.section(SectionIndex(index)) else {
             return assert!(rt; false);
         };
