@@ -31,5 +31,7 @@ measure relocations 10000 1000000
 measure relocations 20000 2000000
 measure sections 30000
 measure sections 60000
+measure overlaps 20000 1000000
+measure overlaps 40000 2000000
 measure sframe 1000000 500
 measure sframe 2000000 1000

@@ -6,6 +6,9 @@
     bench/make_input.py FOLDER relocations UNITS RECORDS    one object, a placed section of code a unit, and RECORDS
                                                             relocation records of `.debug_info` that tell the units
     bench/make_input.py FOLDER sections SECTIONS            one object with so many placed sections of code
+    bench/make_input.py FOLDER overlaps SECTIONS BYTES      one object with so many sections, whose names are ends of one
+                                                            name of so many bytes
+    bench/make_input.py FOLDER alike NAMES                  one object with so many names (a power of two), all of one hash
     bench/make_input.py FOLDER sframe FUNCTIONS RANGES      no object; so many functions, in random order, in so many
                                                             contributions
 
@@ -26,7 +29,7 @@ ALLOC_AND_EXECUTE = 6
 
 
 class Section:
-    """A section of an object (System V gABI, "Sections")."""
+    """A section of an object (System V gABI, "Sections"). Its name is bytes, or the place of an end of an earlier name."""
 
     def __init__(self, name, kind, data, flags=0, link=0, info=0, entry=0):
         self.name, self.kind, self.data, self.flags = name, kind, data, flags
@@ -38,8 +41,8 @@ def object_of(sections):
     names = bytearray(b"\0")
     places = []
     for name in [section.name for section in sections] + [b".shstrtab"]:
-        places.append(len(names))
-        names += name + b"\0"
+        places.append(name if isinstance(name, int) else len(names))
+        names += b"" if isinstance(name, int) else name + b"\0"
     body, headers = bytearray(), bytearray(64)
     for place, section in zip(places, sections + [Section(b".shstrtab", STRTAB, names)]):
         headers += struct.pack(
@@ -127,6 +130,23 @@ def sections(count):
     return [file], layout, b""
 
 
+def overlaps(count, length):
+    """One object whose sections' names are ends of one long name: each name is long, and the file is not."""
+    ends = [Section(1 + length * number // count, PROGBITS, b"") for number in range(1, count)]
+    return [object_of([Section(b"n" * length, PROGBITS, b"")] + ends)], "", b""
+
+
+def alike(count):
+    """One object whose names have one hash: 67 * first + second is the same for each pair of bytes."""
+    bits = count.bit_length() - 1
+    names = [b"".join((b"c!", b"bd")[number >> bit & 1] for bit in range(bits)) for number in range(1 << bits)]
+    file = object_of([
+        Section(b".debug_info", PROGBITS, units_of(1)),
+        Section(b".debug_gnu_pubnames", PROGBITS, set_of(0, UNIT_SIZE, names)),
+    ])
+    return [file], "", b""
+
+
 def contribution(starts):
     """Functions with two rows of three bytes each, which start at these values (SFrame 2)."""
     rows = bytes([0, 3, 8, 1, 3, 16])
@@ -153,7 +173,7 @@ def sframe(functions, ranges):
 
 KINDS = {
     "objects": (objects, 2), "units": (units, 1), "relocations": (relocations, 2), "sections": (sections, 1),
-    "sframe": (sframe, 2),
+    "overlaps": (overlaps, 2), "alike": (alike, 1), "sframe": (sframe, 2),
 }
 
 

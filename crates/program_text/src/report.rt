@@ -1,6 +1,7 @@
 //! The report: units, names with their words, the outcome for the SFrame section, and the bytes of both tables, 32 a line.
 //!
-//! Every line ends with a line feed. Numbers are decimal, bytes and the words of names lower-case hexadecimal. It is built in one buffer.
+//! Every line ends with a line feed. Numbers are decimal, bytes and the words of names lower-case hexadecimal. It is built in one buffer, which
+//! is made as large as it gets.
 ghost use Rattle.std.specs.Prelude.{◌≡◌, ◌++◌, ◌∷◌, [], length, take, drop, codes, map, IfOk, OnOk};
 ghost use Rattle.std.specs.List.{flat_map};
 ghost use Rattle.hex.specs.Hex.{encode_lower};
@@ -14,6 +15,12 @@ use std::alloc::{AllocError, Global};
 
 /// How many bytes a line shows.
 const ROW: usize = 32;
+
+/// The most digits of a number.
+const DIGITS: usize = 20;
+
+/// The most bytes that a line of a word or two and a number takes.
+const LINE: usize = 20 + DIGITS;
 
 /// Appends a line of words and numbers.
 fn push_fields(out: &mut Vec<u8>, words: &str, numbers: &[u64]) -> Result<(), AllocError>
@@ -146,6 +153,28 @@ fn push_section(out: &mut Vec<u8>, name: &str, bytes: &[u8]) -> Result<(), Alloc
     Ok(())
 }
 
+/// How many bytes the lines of the names take.
+fn room_of_names(names: &[NameWords<'_>]) -> usize {
+    let mut room = 0usize;
+    for named in names {
+        let digits = named.name.len().saturating_mul(2);
+        let words = named.words.len().saturating_mul(9);
+        room = room
+            .saturating_add(digits)
+            .saturating_add(words)
+            .saturating_add(7);
+    }
+    room
+}
+
+/// How many bytes the lines of a section's bytes take.
+fn room_of_rows(bytes: &[u8]) -> usize {
+    bytes
+        .len()
+        .saturating_mul(2)
+        .saturating_add(bytes.len() / ROW + 1)
+}
+
 /// The report of a run, as a text of lines:
 ///
 /// `units N`; for each unit `unit K OFFSET LENGTH`, with K from 0; `names N`; for each name `name HEX` and its words in eight digits each, by
@@ -161,7 +190,15 @@ pub fn report_text(
 ) -> Result<Vec<u8>, AllocError>
     ensures { IfOk result (λ text. text.items ≡ report_of units.now names.now outcome index.now sframe.now) }
 {
-    let mut out = Vec::new(alloc);
+    let lines = units
+        .len()
+        .saturating_mul(LINE + 2 * DIGITS)
+        .saturating_add(5 * LINE);
+    let rows = room_of_rows(index).saturating_add(room_of_rows(sframe));
+    let room = lines
+        .saturating_add(room_of_names(names))
+        .saturating_add(rows);
+    let mut out = Vec::with_capacity(alloc, room)?;
     push_fields(&mut out, "units", &[units.len() as u64])?;
     push_units(&mut out, units)?;
     push_fields(&mut out, "names", &[names.len() as u64])?;
