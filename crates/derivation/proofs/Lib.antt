@@ -5,4 +5,5 @@ mod Indexing
 mod NoUnits
 mod Composing
 mod Answering
+mod OneNames
 mod OneIndex

@@ -1,4 +1,4 @@
--- Objects and placements have one index.
+-- Objects and placements have one index and one list of names.
 use Rattle.std.proofs.Common.{◌≡◌, ◌≢◌, ℕ, suc, List, [], ◌∷◌, length, map, refl, ap, sym, ◌∙◌, subst, arith}
 use Rattle.std.specs.List.{All}
 use Rattle.elf_format.specs.Class.{Class}
@@ -10,7 +10,7 @@ use Rattle.gdb_index_format.specs.declared.name_words.NameWords.{NameWords}
 use Rattle.gdb_index_format.specs.declared.placement.AddressEntry.{AddressEntry}
 use Rattle.gdb_index_format.specs.declared.placement.Placement.{Placement}
 use Rattle.gdb_index_format.specs.declared.unit.CuBoundary.{CuBoundary}
-use Rattle.gdb_index_format.specs.Named.{Named}
+use Rattle.gdb_index_format.specs.Named.{Named, all_named}
 use Rattle.gdb_index_format.specs.Placed.{placed}
 use Rattle.gdb_index_format.specs.Published.{Object, Pair, IsWordsOf, published, units_of_all}
 use Rattle.gdb_index_format.specs.Size.{IsSize, counts_of}
@@ -20,8 +20,9 @@ use Rattle.gdb_index_format.proofs.WordLists.{one_list_of_words}
 use Rattle.gdb_tables.specs.Addresses.{addresses}
 use Rattle.gdb_tables.specs.Files.{bytes_of}
 use Rattle.gdb_tables.specs.Sized.{IsScanOfAll}
-use Rattle.derivation.specs.Derived.{IsLaidOut, IsIndexOf}
+use Rattle.derivation.specs.Derived.{IsLaidOut, IsIndexOf, ListsNames}
 use Rattle.derivation.specs.Objects.{index_version}
+use Rattle.derivation.proofs.OneNames.{one_list_of_names}
 
 HaveWords : List Pair → List Named → Type 0
 HaveWords ps ns = All (λ n. (n.words ≢ []) × IsWordsOf n.name ps n.words) ns
@@ -78,12 +79,19 @@ one_laid os count entries (u ∷ us) [] b d same len left right = cc
 one_laid os count entries (u ∷ us) (v ∷ vs) b d same len left right =
     indexes_are_one_lem index_version left.0 entries b d left.2 (subst (λ (s : Scan). layout.IsIndexOf index_version s entries d) (same_scan os count right.0 left.0 right.1 left.1) right.2) len
 
-pub one_index : (c : Class) (parsed : List Parsed) (placements : List Placement) (us vs : List CuBoundary) (ns ms : List NameWords) (b d : List ℕ) → IsIndexOf c parsed placements us ns b → IsIndexOf c parsed placements vs ms d → (us ≡ vs) × (b ≡ d)
+pub one_index : (c : Class) (parsed : List Parsed) (placements : List Placement) (us vs : List CuBoundary) (ns ms : List NameWords) (b d : List ℕ) → IsIndexOf c parsed placements us ns b → IsIndexOf c parsed placements vs ms d → (us ≡ vs) × (all_named ns ≡ all_named ms) × (b ≡ d)
+unfolding HaveWords
 one_index c parsed placements us vs ns ms b d left right =
     let os = left.objects in
     let same : right.objects ≡ os = objects_are_one_lem.one_list c (bytes_of parsed) right.objects os right.held left.held in
     let count : List Object → ℕ = λ l. length (placed c (bytes_of parsed) l placements) in
     let size = subst (λ (l : List Object). IsSize index_version (counts_of l (count l)) (length d)) same right.size in
     let laid = subst (λ (l : List Object). IsLaidOut l (count l) (addresses c parsed l placements) vs d) same right.laid_out in
+    let listed = left.names_are in
+    let also = subst (λ (l : List Object). ListsNames (published l) ms) same right.names_are in
+    let names : all_named ns ≡ all_named ms =
+    same_names (published os) (all_named ns) (all_named ms)
+    (one_list_of_names (published os) ns ms listed.names also.names listed.distinct also.distinct listed.ascending also.ascending)
+    listed.names.words also.names.words in
     let units : us ≡ vs = left.units_are ∙ sym (ap (λ (l : List Object). units_of_all l) same) ∙ sym right.units_are in
-    (units, one_laid os (count os) (addresses c parsed os placements) us vs b d units (sizes_are_one_lem.one_size index_version (counts_of os (count os)) (length b) (length d) left.size size) left.laid_out laid)
+    (units, names, one_laid os (count os) (addresses c parsed os placements) us vs b d units (sizes_are_one_lem.one_size index_version (counts_of os (count os)) (length b) (length d) left.size size) left.laid_out laid)

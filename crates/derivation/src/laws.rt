@@ -17,7 +17,7 @@ pub fn inside_is_no_bad_span()
     ensures { InsideIsNoBadSpan }
 {}
 
-/// Objects and placements have one index, byte for byte.
+/// Objects and placements have one index, byte for byte, and one list of names with their words.
 pub fn indexes_are_one()
     ensures { HasOneIndex }
 {}
