@@ -12,10 +12,12 @@ use Rattle.gdb_index_format.specs.Hash.{name_hash}
 use Rattle.gdb_index_format.specs.Slots.{slot_of}
 use Rattle.gdb_index_format.specs.declared.name_words.NameWords.{NameWords}
 use Rattle.gdb_index_format.specs.Named.{Named, named, all_named}
-use Rattle.gdb_index.specs.Table.{Slot, free_slot, table_bytes, zero_table, with_slot, IsFree, HasRoom, Inserts}
+use Rattle.gdb_index.specs.Table.{Slot, free_slot, table_bytes, zero_table, with_slot, IsFree, IsFirstFree, HasRoom, Inserts}
+use Rattle.gdb_index.specs.Passed.{looks_passed, ArePassed}
 use Rattle.gdb_index.specs.Pool.{vector_len, name_len, vectors_len, names_len, vector_place, name_place}
 use Rattle.gdb_index.specs.Filled.{IsFirstUnused, IsFilledTo, IsFilled, IsFilledTable, slot_for}
-use Rattle.gdb_index.proofs.SlotLists.{SlotFits, length-table, with_slot-table, free_in_bytes, taken_in_bytes, zeros-table}
+use Rattle.gdb_index.proofs.SlotLists.{SlotFits, length-table, with_slot-table, free_in_bytes, free_in_both, taken_in_bytes, zeros-table}
+use Rattle.gdb_index.proofs.OneProbe.{one_probe}
 
 -- ---- a list that is shorter than n lacks a number below n
 
@@ -237,6 +239,37 @@ fills_more old new slots ns n d g less power fits ins =
             get_or-set_other g.held s r (slot_for ns n) free_slot apart ∙ f.free r l lacked;
       };
     }
+
+-- a slot that is free after a name was put was free before, and is another than the name's
+still_taken : (old new : List ℕ) (slots : ℕ) (ns : List Named) (n : ℕ) (g : FillsTo old slots ns n) (here : ℕ) (x : Slot) → here < slots → SlotFits x → 0 < x.name → new ≡ with_slot old here x → (s : ℕ) → s < slots → IsFree new s → IsFree old s × (s ≡ here → ⊥)
+still_taken old new slots ns n g here x below fits some puts s inside free =
+    let held = set g.held here x in
+    let len : length held ≡ slots = length-set g.held here x ∙ g.filled.len in
+    let fit : All SlotFits held = All-set SlotFits g.held here x fits g.fit in
+    let bytes : new ≡ table_bytes held = puts ∙ ap (λ t. with_slot t here x) g.bytes_are ∙ with_slot-table g.held here x (omega (arith, below, g.filled.len)) in
+    let freed : IsFree (table_bytes held) s = subst (λ t. IsFree t s) bytes free in
+    let apart : s ≡ here → ⊥ =
+    λ same. taken_in_bytes held s x (omega (arith, inside, len)) fit (ap (λ k. get_or held k free_slot) same ∙ get_or-set_same g.held here x free_slot (omega (arith, below, g.filled.len))) some freed in (
+      subst (λ t. IsFree t s) (sym g.bytes_are) (free_in_both held g.held s (omega (arith, inside, len)) (omega (arith, inside, g.filled.len)) fit g.fit (get_or-set_other g.held here s x free_slot apart) freed),
+      apart,
+    )
+
+-- what is told of the probes after one more name was put
+pub passed_more : (old new passed after : List ℕ) (slots : ℕ) (ns : List Named) (n : ℕ) (g : FillsTo old slots ns n) (hash start look : ℕ) (x : Slot)
+    → IsPowerOfTwo slots → slots < 2 ^ 32 → SlotFits x → 0 < x.name → IsFirstFree old slots hash look → new ≡ with_slot old (slot_of slots hash look) x → start ≡ slot_of slots hash 0
+    → looks_passed after start ≤ look + 1 → ((s : ℕ) → (s ≡ start → ⊥) → looks_passed after s ≡ looks_passed passed s) → ArePassed old passed slots → ArePassed new after slots
+passed_more old new passed after slots ns n g hash start look x power small fits some first puts begins told others before other j below free =
+    let inside : slot_of slots other j < slots = slot_below slots other j (omega (arith, first.below)) in
+    let was = still_taken old new slots ns n g (slot_of slots hash look) x (slot_below slots hash look (omega (arith, first.below))) fits some puts (slot_of slots other j) inside free in
+    elim (cases_eq (slot_of slots other 0) start) [
+      | inl same ↦
+          let one : slot_of slots other j ≡ slot_of slots hash j = one_probe slots other hash j power small (same ∙ begins) in
+          elim (cases_eq j look) [
+            | inl last ↦ was.1 (one ∙ ap (slot_of slots hash) last)
+            | inr differ ↦ first.first j (omega (arith, below, told, ap (looks_passed after) same, differ)) (subst (λ s. IsFree old s) one was.0)
+          ]
+      | inr differ ↦ before other j (omega (arith, below, others (slot_of slots other 0) differ)) was.0
+    ]
 
 pub filled_table : (table : List ℕ) (slots : ℕ) (ns : List Named) (n : ℕ) → n ≡ length ns → FillsTo table slots ns n → IsFilledTable table slots ns
 filled_table table slots ns n all f = record { table = f.held; filled = subst (λ k. IsFilledTo f.held slots ns k) all f.filled; bytes_are = f.bytes_are }

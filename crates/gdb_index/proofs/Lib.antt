@@ -3,6 +3,8 @@ pub mod Reading
 pub mod Standing
 pub mod Extending
 pub mod Probes
+pub mod OneProbe
+pub mod Passing
 pub mod SlotLists
 pub mod Filling
 pub mod Tables

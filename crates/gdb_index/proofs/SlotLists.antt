@@ -70,6 +70,13 @@ pub taken_in_bytes : (slots : List Slot) (s : ℕ) (x : Slot) → s < length slo
 taken_in_bytes slots s x l fit is some free =
     omega (arith, some, (slot_read slots s free_slot l (fit s free_slot l)).0, free.0, ap (λ (y : Slot). y.name) is)
 
+-- a slot that two tables share is free in both
+pub free_in_both : (slots others : List Slot) (s : ℕ) → s < length slots → s < length others → All SlotFits slots → All SlotFits others → get_or slots s free_slot ≡ get_or others s free_slot → IsFree (table_bytes slots) s → IsFree (table_bytes others) s
+free_in_both slots others s l m fit fits same free =
+    let read = slot_read slots s free_slot l (fit s free_slot l) in
+    let also = slot_read others s free_slot m (fits s free_slot m) in
+    (also.0 ∙ sym (ap (λ (x : Slot). x.name) same) ∙ sym read.0 ∙ free.0, also.1 ∙ sym (ap (λ (x : Slot). x.vector) same) ∙ sym read.1 ∙ free.1)
+
 pub zeros-table : (slots : ℕ) → zero_table slots ≡ table_bytes (replicate slots free_slot)
 zeros-table zero = refl
 zeros-table (suc n) = ap (λ k. replicate k 0) (more n) ∙ sym (replicate-append-replicate 8 (8 * n) 0) ∙ ap (λ t. slot_bytes free_slot ++ t) (zeros-table n) where

@@ -1,21 +1,24 @@
 -- A table in the middle of a longer list of bytes.
-use Rattle.std.proofs.Common.{◌≡◌, ℕ, ◌+◌, ◌≤◌, List, ◌++◌, length, take, drop, refl, sym, ap, ◌∙◌, arith}
-use Rattle.std.proofs.lemmas.List.{length-take-le, take-take, take_at, drop_at, drop-take}
-use Rattle.std.proofs.lemmas.Slice.{take-put_mid}
-use borrow.Rule.Slice.PartMut.{put_mid}
+use Rattle.std.proofs.Common.{◌≡◌, ℕ, ◌+◌, ◌-◌, ◌≤◌, List, ◌++◌, length, take, sym, ap, ◌∙◌, arith}
+use Rattle.std.proofs.lemmas.List.{length-append, length-take-le, take-take, take_at, append-nil, nil_from_length}
 use Rattle.gdb_index.specs.Writes.{Extends}
 
--- what a write left at its place
-pub written_part : (a b : List ℕ) (at n : ℕ) (xs : List ℕ) → Extends a b at xs → at ≤ length a → n ≡ length xs → take n (drop at b) ≡ xs
-written_part a b at n xs p within is =
-    sym (drop-take at n b) ∙ ap (λ k. drop at (take (at + k) b)) is ∙ ap (drop at) p.front ∙ drop_at (take at a) xs at (length-take-le at a within)
-
+-- what stood before the place of a write is as it was
 before : (a b : List ℕ) (at : ℕ) (xs : List ℕ) → Extends a b at xs → at ≤ length a → take at b ≡ take at a
 before a b at xs p within =
     sym (take-take at (at + length xs) b (omega arith)) ∙ ap (take at) p.front ∙ take_at (take at a) xs at (length-take-le at a within)
 
-pub Extends-part : (a b : List ℕ) (at k : ℕ) (zeros table : List ℕ) → Extends a b at zeros → at + k ≤ length a → length table ≡ k → length (put_mid at k b table) ≡ length b → Extends a (put_mid at k b table) at table
-Extends-part a b at k zeros table p within len same = record {
-  same_len = same ∙ p.same_len;
-  front = take-put_mid at k b table (at + length table) refl (omega (arith, p.same_len)) ∙ ap (λ t. t ++ table) (before a b at zeros p (omega arith));
-}
+-- a table written into the front of bytes that were split behind it
+pub Extends-front : (a b front after behind table zeros : List ℕ) (at end : ℕ) → Extends a b at zeros → at ≤ end → end ≤ length b → front ≡ take end b → length after ≡ 0 → length table ≡ end - at → length behind + end ≡ length b
+    → Extends a (take at front ++ (table ++ after) ++ behind) at table
+Extends-front a b front after behind table zeros at end p order within is none len rest =
+    let held : length front ≡ end = ap length is ∙ length-take-le end b within in
+    let first : length (take at front) ≡ at = length-take-le at front (omega (arith, order, held)) in
+    let whole : length (take at front ++ (table ++ after)) ≡ at + length table = omega (arith, length-append (take at front) (table ++ after), length-append table after, none, first) in
+    record {
+      same_len = omega (arith, length-append (take at front ++ (table ++ after)) behind, whole, len, order, rest) ∙ p.same_len;
+      front =
+          take_at (take at front ++ (table ++ after)) behind (at + length table) whole
+          ∙ ap (λ l. take at front ++ (table ++ l)) (nil_from_length after none) ∙ ap (λ l. take at front ++ l) (append-nil table)
+          ∙ ap (λ l. take at l ++ table) is ∙ ap (λ l. l ++ table) (take-take at end b order ∙ before a b at zeros p (omega (arith, order, within, p.same_len)));
+    }

@@ -2,6 +2,7 @@ pub mod Scan
 pub mod Size
 pub mod Pool
 pub mod Table
+pub mod Passed
 pub mod Filled
 pub mod Layout
 pub mod Answers

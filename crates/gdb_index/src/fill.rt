@@ -8,13 +8,21 @@ ghost use Rattle.gdb_index.specs.Pool.{vectors_len, names_len};
 ghost use Rattle.gdb_index.specs.Filled.{IsFilledTable};
 
 use crate::hash::gdb_hash;
+use crate::passed::{looks_passed, pass_looks};
 use crate::pool::{name_len, vector_len};
-use crate::table::insert_name;
+use crate::table::{insert_name, slot_at};
 use gdb_index_format::NameWords;
 
 /// Puts each name into the first slot of its probe that no earlier name holds, in a table of zeros. The
-/// vectors of all names have `vectors` bytes, behind which the names stand.
-pub(crate) fn fill_table(table: &mut [u8], slots: usize, names: &[NameWords<'_>], vectors: u32)
+/// vectors of all names have `vectors` bytes, behind which the names stand. `passed` is written over: it tells how
+/// far the probes have come.
+pub(crate) fn fill_table(
+    table: &mut [u8],
+    passed: &mut [u8],
+    slots: usize,
+    names: &[NameWords<'_>],
+    vectors: u32,
+)
     requires power { IsPowerOfTwo slots }
     requires small { slots < 2 ^ 32 }
     requires room { length names.now < slots }
@@ -23,10 +31,15 @@ pub(crate) fn fill_table(table: &mut [u8], slots: usize, names: &[NameWords<'_>]
     requires fits { vectors_len (all_named names.now) + names_len (all_named names.now) < 2 ^ 32 }
     ensures { IsFilledTable table.new slots (all_named names.now) }
 {
+    passed.fill(0);
     let mut vector = 0;
     let mut name = vectors;
     for named in names {
-        insert_name(table, slots, gdb_hash(named.name), name, vector);
+        let hash = gdb_hash(named.name);
+        let start = slot_at(slots, hash, 0);
+        let known = looks_passed(passed, start);
+        let look = insert_name(table, slots, hash, known, name, vector);
+        pass_looks(passed, start, look + 1);
         vector += vector_len(named);
         name += name_len(named);
     }

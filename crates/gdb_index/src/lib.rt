@@ -8,6 +8,7 @@ mod examples;
 mod fill;
 mod hash;
 mod laws;
+mod passed;
 mod pool;
 mod reader;
 mod scan_result;

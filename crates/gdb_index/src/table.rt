@@ -3,7 +3,7 @@
 ghost use Rattle.std.specs.Prelude.{◌≡◌, ◌↔◌, ℕ, ◌+◌, ◌*◌, ◌<◌, ◌≤◌, ◌^◌, IsTrue, length};
 ghost use Rattle.std.specs.Int.{IsPowerOfTwo};
 ghost use Rattle.gdb_index_format.specs.Slots.{slot_of};
-ghost use Rattle.gdb_index.specs.Table.{IsFree, HasRoom, with_slot, Inserts};
+ghost use Rattle.gdb_index.specs.Table.{IsFree, IsFirstFree, HasRoom, with_slot};
 
 use elf_words::read_u32;
 
@@ -35,15 +35,26 @@ pub(crate) fn slot_at(slots: usize, hash: u32, look: usize) -> usize
     ((u64::from(hash) + look as u64 * step) % slots as u64) as usize
 }
 
-/// Puts a name and its vector, by their places in the pool, into the first free slot of the name's probe.
-pub(crate) fn insert_name(table: &mut [u8], slots: usize, hash: u32, name: u32, vector: u32)
+/// Puts a name and its vector, by their places in the pool, into the first free slot of the name's probe, whose first
+/// looks are known to meet taken slots. Answers how many looks met such slots.
+pub(crate) fn insert_name(
+    table: &mut [u8],
+    slots: usize,
+    hash: u32,
+    passed: usize,
+    name: u32,
+    vector: u32,
+) -> usize
     requires room { HasRoom table.old slots }
     requires table { slots < 2 ^ 32 }
-    ensures { Inserts table.old table.new slots hash (record { name = name; vector = vector }) }
+    requires passed { (look : ℕ) → look < passed → IsFree table.old (slot_of slots hash look) → ⊥ }
+    ensures first { IsFirstFree table.old slots hash result }
+    ensures puts { table.new ≡ with_slot table.old (slot_of slots hash result) (record { name = name; vector = vector }) }
 {
-    let mut look = 0;
+    let mut look = passed;
     while !is_free(table, slot_at(slots, hash, look)) {
         look += 1;
     }
     put_slot(table, slot_at(slots, hash, look), name, vector);
+    look
 }

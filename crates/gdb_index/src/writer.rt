@@ -15,6 +15,7 @@ ghost use Rattle.gdb_index.specs.Answers.{AnswersFor};
 
 use crate::fill::fill_table;
 use crate::hash::compute_hash_table_slots;
+use crate::passed::PASSED_LEN;
 use crate::pool::vectors_len_of_all;
 use crate::scan_result::GdbIndexScanResult;
 use crate::version::{HEADER_LEN, INDEX_VERSION, SHORTCUTS_LEN};
@@ -46,7 +47,7 @@ fn append_header(buf: &mut [u8], units: usize, addresses: usize, slots: usize) -
 }
 
 /// Writes the hash table, in which each name stands in the first slot of its probe that no earlier name
-/// holds.
+/// holds. Bytes behind it, where the pool will stand, are written over.
 fn append_table(buf: &mut [u8], at: usize, slots: usize, names: &[NameWords<'_>]) -> usize
     requires room { at + 8 * slots ≤ length buf.old }
     requires counted { IsSlotCount (length names.now) slots }
@@ -58,7 +59,9 @@ fn append_table(buf: &mut [u8], at: usize, slots: usize, names: &[NameWords<'_>]
     let end = append_zeros(buf, at, 8 * slots);
     let vectors = vectors_len_of_all(names);
     if slots > 0 {
-        fill_table(&mut buf[at..end], slots, names, vectors);
+        let (front, behind) = buf.split_at_mut(end);
+        let room = behind.len().min(PASSED_LEN * slots);
+        fill_table(&mut front[at..], &mut behind[..room], slots, names, vectors);
     }
     end
 }

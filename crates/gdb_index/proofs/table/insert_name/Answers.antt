@@ -5,6 +5,9 @@ use Rattle.gdb_index.specs.Table.{IsFree}
 use Rattle.gdb_index.proofs.Probes.{looks_left}
 use Rattle.gdb_index.proofs.table.insert_name.Goals as goal
 
+pub loop-look-init : goal.loop-look-init
+loop-look-init c = record { within = looks_left c.args.table.now c.args.slots c.args.hash c.args.passed c.requires.room c.requires.passed; taken = c.requires.passed }
+
 pub loop-look-preserved : goal.loop-look-preserved
 loop-look-preserved c =
     let here : IsFree c.args.table.now (slot_of c.args.slots c.args.hash c.loop-look.look) → ⊥ =

@@ -1,0 +1,101 @@
+-- What three bytes tell of a slot, once they are written.
+use Rattle.std.proofs.Common.{◌≡◌, ◌≢◌, ℕ, zero, suc, Bool, true, false, ◌+◌, ◌*◌, ◌/◌, ◌%◌, ◌<◌, ◌≤◌, cond, List, length, get_or, set, replicate, refl, sym, ap, ◌∙◌, arith, nat_le}
+use Rattle.std.proofs.lemmas.Bool.{le-leb}
+use Rattle.std.proofs.lemmas.List.{get_or-set_same, get_or-set_other, length-set, length-replicate}
+use Rattle.std.proofs.lemmas.Bool.Decides.{nat_tests}
+use Rattle.gdb_index.specs.Passed.{looks_passed}
+
+-- by the length of the bytes and the three that tell
+told_by : ℕ → ℕ → ℕ → ℕ → ℕ → ℕ
+told_by n s low middle high = cond (nat_le (3 * s + 3) n) (low + 256 * middle + 65536 * high) 0
+
+same_told : (s n m a b c x y z : ℕ) → n ≡ m → a ≡ x → b ≡ y → c ≡ z → told_by n s a b c ≡ told_by m s x y z
+same_told s n m a b c x y z len low middle high =
+    ap (λ k. told_by k s a b c) len ∙ ap (λ k. told_by m s k b c) low ∙ ap (λ k. told_by m s x k c) middle ∙ ap (λ k. told_by m s x y k) high
+
+three_set : List ℕ → ℕ → ℕ → ℕ → ℕ → List ℕ
+three_set bytes at low middle high = set (set (set bytes at low) (at + 1) middle) (at + 2) high
+
+length_three : (bytes : List ℕ) (at low middle high : ℕ) → length (three_set bytes at low middle high) ≡ length bytes
+unfolding three_set
+length_three bytes at low middle high =
+    length-set (set (set bytes at low) (at + 1) middle) (at + 2) high ∙ length-set (set bytes at low) (at + 1) middle ∙ length-set bytes at low
+
+other_byte : (bytes : List ℕ) (at low middle high i : ℕ) → i ≢ at → i ≢ at + 1 → i ≢ at + 2 → get_or (three_set bytes at low middle high) i 0 ≡ get_or bytes i 0
+unfolding three_set
+other_byte bytes at low middle high i first second third =
+    get_or-set_other (set (set bytes at low) (at + 1) middle) (at + 2) i high 0 third
+    ∙ get_or-set_other (set bytes at low) (at + 1) i middle 0 second
+    ∙ get_or-set_other bytes at i low 0 first
+
+low_byte : (bytes : List ℕ) (at low middle high : ℕ) → at + 3 ≤ length bytes → get_or (three_set bytes at low middle high) at 0 ≡ low
+unfolding three_set
+low_byte bytes at low middle high room =
+    get_or-set_other (set (set bytes at low) (at + 1) middle) (at + 2) at high 0 (λ e. omega (arith, e))
+    ∙ get_or-set_other (set bytes at low) (at + 1) at middle 0 (λ e. omega (arith, e))
+    ∙ get_or-set_same bytes at low 0 (omega (arith, room))
+
+middle_byte : (bytes : List ℕ) (at low middle high : ℕ) → at + 3 ≤ length bytes → get_or (three_set bytes at low middle high) (at + 1) 0 ≡ middle
+unfolding three_set
+middle_byte bytes at low middle high room =
+    get_or-set_other (set (set bytes at low) (at + 1) middle) (at + 2) (at + 1) high 0 (λ e. omega (arith, e))
+    ∙ get_or-set_same (set bytes at low) (at + 1) middle 0 (omega (arith, room, length-set bytes at low))
+
+high_byte : (bytes : List ℕ) (at low middle high : ℕ) → at + 3 ≤ length bytes → get_or (three_set bytes at low middle high) (at + 2) 0 ≡ high
+unfolding three_set
+high_byte bytes at low middle high room =
+    get_or-set_same (set (set bytes at low) (at + 1) middle) (at + 2) high 0 (omega (arith, room, length-set (set bytes at low) (at + 1) middle, length-set bytes at low))
+
+-- the three bytes of a slot tell the number that was written
+pub looks_written : (bytes : List ℕ) (slot told : ℕ) → 3 * slot + 3 ≤ length bytes → looks_passed (set (set (set bytes (3 * slot) (told % 256)) (3 * slot + 1) (told / 256 % 256)) (3 * slot + 2) (told / 65536)) slot ≡ told
+unfolding looks_passed three_set told_by
+looks_written bytes slot told room =
+    let at = 3 * slot in
+    let a = told % 256 in
+    let b = told / 256 % 256 in
+    let c = told / 65536 in
+    let whole : a + 256 * b + 65536 * c ≡ told = omega arith in
+    same_told slot (length (three_set bytes at a b c)) (length bytes) _ _ _ a b c (length_three bytes at a b c) (low_byte bytes at a b c room) (middle_byte bytes at a b c room) (high_byte bytes at a b c room)
+    ∙ ap (λ t. cond t (a + 256 * b + 65536 * c) 0) (le-leb (3 * slot + 3) (length bytes) room)
+    ∙ whole
+
+-- those of another slot tell what they told
+pub looks_kept : (bytes : List ℕ) (slot low middle high s : ℕ) → (s ≡ slot → ⊥) → looks_passed (set (set (set bytes (3 * slot) low) (3 * slot + 1) middle) (3 * slot + 2) high) s ≡ looks_passed bytes s
+unfolding looks_passed three_set told_by
+looks_kept bytes slot a b c s other =
+    let at = 3 * slot in
+    let apart : (i : ℕ) → i < 3 → get_or (three_set bytes at a b c) (3 * s + i) 0 ≡ get_or bytes (3 * s + i) 0 =
+    λ i below. other_byte bytes at a b c (3 * s + i) (λ e. other (omega (arith, e, below))) (λ e. other (omega (arith, e, below))) (λ e. other (omega (arith, e, below))) in
+    let first : 3 * s + 0 ≡ 3 * s = omega arith in
+    same_told s (length (three_set bytes at a b c)) (length bytes) _ _ _ _ _ _ (length_three bytes at a b c)
+    (ap (λ i. get_or (three_set bytes at a b c) i 0) (sym first) ∙ apart 0 (omega arith) ∙ ap (λ i. get_or bytes i 0) first) (apart 1 (omega arith)) (apart 2 (omega arith))
+
+-- where there are no bytes for a slot, no looks are told of
+pub none_outside : (bytes : List ℕ) (s : ℕ) → length bytes < 3 * s + 3 → looks_passed bytes s ≡ 0
+unfolding looks_passed
+none_outside bytes s outside = ap (λ t. cond t (get_or bytes (3 * s) 0 + 256 * get_or bytes (3 * s + 1) 0 + 65536 * get_or bytes (3 * s + 2) 0) 0) (not_le (3 * s + 3) (length bytes) outside) where
+  not_le : (n m : ℕ) → m < n → nat_le n m ≡ false
+  not_le n m more = grind (arith, nat_tests)
+
+-- zeros tell of none
+zeros : ℕ → List ℕ
+zeros n = replicate n 0
+
+zero_byte : (n i : ℕ) → get_or (zeros n) i 0 ≡ 0
+unfolding zeros
+zero_byte zero i = refl
+zero_byte (suc n) zero = refl
+zero_byte (suc n) (suc i) = zero_byte n i
+
+either : (t : Bool) (x : ℕ) → x ≡ 0 → cond t x 0 ≡ x
+either true x none = refl
+either false x none = sym none
+
+none_told : (n s : ℕ) → told_by n s 0 0 0 ≡ 0
+unfolding told_by
+none_told n s = either (nat_le (3 * s + 3) n) 0 refl
+
+pub none_passed : (n s : ℕ) → looks_passed (replicate n 0) s ≡ 0
+unfolding looks_passed told_by zeros
+none_passed n s =
+    same_told s (length (zeros n)) n _ _ _ 0 0 0 (length-replicate n 0) (zero_byte n (3 * s)) (zero_byte n (3 * s + 1)) (zero_byte n (3 * s + 2)) ∙ none_told n s
