@@ -33,5 +33,7 @@ measure sections 30000
 measure sections 60000
 measure overlaps 20000 1000000
 measure overlaps 40000 2000000
+measure alike 65536
+measure alike 131072
 measure sframe 1000000 500
 measure sframe 2000000 1000
