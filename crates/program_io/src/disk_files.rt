@@ -9,7 +9,7 @@ use std::io::Read;
 use std::marker::Model;
 
 /// How many bytes are read at a time.
-const PIECE: usize = 64 * 1024;
+const PIECE: usize = 16 * 1024;
 
 /// Reads what a reader has left onto the end of `out`, and counts the bytes that it takes.
 fn read_rest<R: Read>(
