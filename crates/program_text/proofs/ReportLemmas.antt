@@ -1,10 +1,32 @@
 -- The lines of bytes, one after another.
-use Rattle.std.proofs.Common.{◌≡◌, ◌+◌, ◌*◌, ◌/◌, ◌<◌, ℕ, suc, zero, List, [], ◌∷◌, ◌++◌, length, take, drop, map, refl, sym, ap, ◌∙◌, arith, length-drop, append_assoc}
-use Rattle.std.proofs.lemmas.List.{drop-drop}
+use Rattle.std.proofs.Common.{◌≡◌, ◌+◌, ◌*◌, ◌/◌, ◌%◌, ◌<◌, ℕ, suc, zero, List, [], ◌∷◌, ◌++◌, length, take, drop, map, refl, sym, ap, ◌∙◌, arith, length-drop, append_assoc}
+use Rattle.std.proofs.lemmas.List.{drop-drop, take-append-drop}
+use Rattle.std.specs.Prelude.{slice_index}
 use Rattle.std.specs.List.{range_with_len}
-use Rattle.hex.specs.Hex.{encode_lower}
+use Rattle.hex.specs.Hex.{encode_lower, encode_with, lower_digits}
 use Rattle.program_text.specs.Lines.{text_of}
 use Rattle.program_text.specs.Report.{row, byte_lines}
+
+-- the bytes behind the first row are fewer
+pub fewer : (after rest : List ℕ) → 0 < length rest → after ≡ drop 32 rest → length after < length rest
+fewer after rest some is = omega (arith, ap (λ (l : List ℕ). length l) is, length-drop 32 rest)
+
+-- the digits of a list are those of its parts
+digits_of_parts : (digits front back : List ℕ) → encode_with digits (front ++ back) ≡ encode_with digits front ++ encode_with digits back
+unfolding encode_with
+digits_of_parts digits [] back = refl
+digits_of_parts digits (byte ∷ front) back = ap (λ (l : List ℕ). slice_index digits (byte / 16) ∷ slice_index digits (byte % 16) ∷ l) (digits_of_parts digits front back)
+
+-- a row whose digits were pushed
+pub digits_pushed : (out row_out row after rest whole : List ℕ) → row ≡ take 32 rest → after ≡ drop 32 rest → row_out ≡ out ++ encode_lower row → out ++ encode_lower rest ≡ whole → row_out ++ encode_lower after ≡ whole
+digits_pushed out row_out row after rest whole row-is after-is row_out-is before =
+    ap (λ (l : List ℕ). l ++ encode_lower after) row_out-is
+    ∙ append_assoc out (encode_lower row) (encode_lower after)
+    ∙ ap (λ (l : List ℕ). out ++ l) (sym (digits_of_parts lower_digits row after))
+    ∙ ap (λ (l : List ℕ). out ++ encode_lower (l ++ after)) row-is
+    ∙ ap (λ (l : List ℕ). out ++ encode_lower (take 32 rest ++ l)) after-is
+    ∙ ap (λ (l : List ℕ). out ++ encode_lower l) (take-append-drop 32 rest)
+    ∙ before
 
 -- the rows of the rest are the later rows of the whole
 rows_of_rest : (bytes : List ℕ) (from count : ℕ) → map (λ k. encode_lower (row (drop 32 bytes) k)) (range_with_len from count) ≡ map (λ k. encode_lower (row bytes k)) (range_with_len (from + 1) count)

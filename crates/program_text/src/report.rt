@@ -2,7 +2,7 @@
 //!
 //! Every line ends with a line feed. Numbers are decimal, bytes and the words of names lower-case hexadecimal. It is built in one buffer, which
 //! is made as large as it gets.
-ghost use Rattle.std.specs.Prelude.{◌≡◌, ◌++◌, ◌∷◌, [], length, take, drop, codes, map, IfOk, OnOk};
+ghost use Rattle.std.specs.Prelude.{◌≡◌, ◌≤◌, ◌++◌, ◌∷◌, [], length, take, drop, codes, map, IfOk, OnOk};
 ghost use Rattle.std.specs.List.{flat_map};
 ghost use Rattle.hex.specs.Hex.{encode_lower};
 ghost use Rattle.program_text.specs.Lines.{text_of};
@@ -48,16 +48,40 @@ fn push_units(out: &mut Vec<u8>, units: &[CuBoundary]) -> Result<(), AllocError>
     Ok(())
 }
 
+/// The bytes of the first row, and those behind it.
+fn split_row(bytes: &[u8]) -> (&[u8], &[u8])
+    ensures row { result.0.now ≡ take ROW bytes.now }
+    ensures short { length result.0.now ≤ ROW }
+    ensures after { result.1.now ≡ drop ROW bytes.now }
+{
+    if bytes.len() < ROW {
+        (bytes, &[])
+    } else {
+        bytes.split_at(ROW)
+    }
+}
+
+/// Appends the digits of a row of bytes.
+fn push_row(out: &mut Vec<u8>, row: &[u8]) -> Result<(), AllocError>
+    requires short { length row.now ≤ ROW }
+    ensures ok { OnOk result (out.new.items ≡ out.old.items ++ encode_lower row.now) }
+{
+    let mut room = [0u8; 2 * ROW];
+    let digits = &mut room[..2 * row.len()];
+    hex::encode_to_slice(row, digits).unwrap();
+    out.extend_from_slice(digits)?;
+    Ok(())
+}
+
 /// Appends the digits of bytes.
 #[tactic(auto, unfolding(hex::specs::Hex::encode_with))]
 fn push_digits(out: &mut Vec<u8>, bytes: &[u8]) -> Result<(), AllocError>
     ensures ok { OnOk result (out.new.items ≡ out.old.items ++ encode_lower bytes.now) }
 {
     let mut rest = bytes;
-    while let [byte, after @ ..] = rest {
-        let mut digits = [0u8; 2];
-        hex::encode_to_slice([*byte], &mut digits).unwrap();
-        out.extend_from_slice(&digits)?;
+    'rows: while !rest.is_empty() {
+        let (row, after) = split_row(rest);
+        push_row(out, row)?;
         rest = after;
     }
     Ok(())
@@ -118,18 +142,6 @@ fn push_outcome(out: &mut Vec<u8>, outcome: SframeOutcome) -> Result<(), AllocEr
     }
 }
 
-/// The bytes of the first line, and those behind it.
-fn split_row(bytes: &[u8]) -> (&[u8], &[u8])
-    ensures row { result.0.now ≡ take ROW bytes.now }
-    ensures after { result.1.now ≡ drop ROW bytes.now }
-{
-    if bytes.len() < ROW {
-        (bytes, &[])
-    } else {
-        bytes.split_at(ROW)
-    }
-}
-
 /// Appends bytes, 32 a line.
 fn push_rows(out: &mut Vec<u8>, bytes: &[u8]) -> Result<(), AllocError>
     ensures ok { OnOk result (out.new.items ≡ out.old.items ++ text_of (byte_lines bytes.now)) }
@@ -137,7 +149,7 @@ fn push_rows(out: &mut Vec<u8>, bytes: &[u8]) -> Result<(), AllocError>
     let mut rest = bytes;
     'rows: while !rest.is_empty() {
         let (row, after) = split_row(rest);
-        push_digits(out, row)?;
+        push_row(out, row)?;
         out.extend_from_slice(b"\n")?;
         rest = after;
     }

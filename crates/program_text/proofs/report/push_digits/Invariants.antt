@@ -2,8 +2,8 @@ use Rattle.std.proofs.Common.{◌≡◌, ◌++◌, length}
 use Rattle.hex.specs.Hex.{encode_lower}
 use Rattle.program_text.proofs.report.push_digits.Given as goal
 
-abbrev pub invariant-loop-rest : goal.invariant-loop-rest
-invariant-loop-rest l = l.out.items ++ encode_lower l.rest ≡ l.initial.out.items ++ encode_lower l.bytes
+abbrev pub invariant-rows : goal.invariant-rows
+invariant-rows l = l.out.items ++ encode_lower l.rest ≡ l.initial.out.items ++ encode_lower l.bytes
 
-abbrev pub decreases-loop-rest : goal.decreases-loop-rest
-decreases-loop-rest l = length l.rest
+abbrev pub decreases-rows : goal.decreases-rows
+decreases-rows l = length l.rest
