@@ -1,9 +1,9 @@
 -- Loops that merge, step by step.
-use Rattle.std.proofs.Common.{◌≡◌, ◌≢◌, ℕ, zero, suc, ◌+◌, ◌^◌, ◌<◌, ◌≤◌, List, [], ◌∷◌, ◌++◌, length, get_or, drop, take, map, Option, refl, sym, ap, subst, ◌∙◌, arith, append_assoc}
+use Rattle.std.proofs.Common.{◌≡◌, ◌≢◌, ℕ, zero, suc, ◌+◌, ◌^◌, ◌<◌, ◌≤◌, List, [], ◌∷◌, ◌++◌, length, get_or, drop, map, Option, refl, sym, ap, subst, ◌∙◌, arith, append_assoc}
 use Rattle.std.specs.Prelude.{sum}
 use Rattle.std.specs.List.{All, AllByRecursion}
 use Rattle.std.specs.List.Sorted.{IsPermutation, IsNonDecreasing}
-use Rattle.std.proofs.lemmas.List.{drop_more, drop_all, length-append}
+use Rattle.std.proofs.lemmas.List.{drop_more, length-append, append-nil, nil_from_length}
 use Rattle.gdb_index_format.specs.Hash.{word_of}
 use Rattle.gdb_tables.proofs.Listing.{lists_of_scans}
 use Rattle.std.proofs.lemmas.List.Sums.{sum_by-cons}
@@ -19,7 +19,7 @@ use Rattle.gdb_tables.specs.Groups.{names_of, values_of, groups, add_all, add_li
 use Rattle.gdb_tables.specs.Marks.{group_of, groups_in}
 use Rattle.gdb_tables.specs.Merged.{AreSorted, HaveSmallWords}
 use Rattle.gdb_tables.specs.Scan.{ObjectScan, IsObjectName, HasSoundNames, units_in_scan, names_in_scan, placed_in_scan, unit_counts, unit_total, units_in_scans, placed_total, mark_word, words_at, words_of_groups, words_from}
-use Rattle.gdb_tables.proofs.Grouping.{Name, add_all-append, add_all-is_list, tabled}
+use Rattle.gdb_tables.proofs.Grouping.{Name, groups-add_all, add_all-append, add_all-is_list, tabled}
 use Rattle.gdb_tables.proofs.Pairing.{HaveSome, HaveSome-firsts}
 use Rattle.gdb_tables.proofs.Sounding.{each_from_All, All-from_each, each-append, each-firsts, each-values}
 
@@ -111,16 +111,6 @@ named_step first ns i n gs hs all l is step left =
     ∙ sym (ap (λ xs. add_all gs (words_of_groups first (groups_in xs))) (drop_more ns i n l))
     ∙ left
 
-pub scan_step : (first : ℕ) (ss : Scans) (i : ℕ) (s : Option ObjectScan) (gs hs all : List (Name × List ℕ)) → i < length ss → s ≡ get_or ss i s → hs ≡ add_all gs (words_of_groups first (names_in_scan s)) → add_all gs (words_from first (drop i ss)) ≡ all → add_all hs (words_from (first + length (units_in_scan s)) (drop (i + 1) ss)) ≡ all
-scan_step first ss i s gs hs all l is step left =
-    ap (λ xs. add_all xs (words_from (first + length (units_in_scan s)) (drop (i + 1) ss))) step
-    ∙ sym (add_all-append gs (words_of_groups first (names_in_scan s)) (words_from (first + length (units_in_scan s)) (drop (i + 1) ss)))
-    ∙ sym (ap (λ xs. add_all gs (words_from first xs)) (front ss i s l is))
-    ∙ left
-
-pub scans_end : (first : ℕ) (ss : Scans) (i : ℕ) (gs : List (Name × List ℕ)) → length ss ≤ i → gs ≡ add_all gs (words_from first (drop i ss))
-scans_end first ss i gs le = sym (ap (λ xs. add_all gs (words_from first xs)) (drop_all i ss le))
-
 pub sorted_push : (gs : List (Name × List ℕ)) (ns : List Named) (g : Name × List ℕ) (n : Named) → AreSorted gs ns → n.name ≡ g.0 → IsPermutation g.1 n.words → IsNonDecreasing n.words → AreSorted (gs ++ g ∷ []) (ns ++ n ∷ [])
 sorted_push [] [] g n h name same ascending = (name, same, ascending, tt)
 sorted_push [] (m ∷ ns) g n h name same ascending = absurd h
@@ -135,17 +125,48 @@ marks_fit first count (x ∷ ns) (suc i) n few sound l is = marks_fit first coun
 
 -- ---- all names
 
-pub sound_step : (ss : Scans) (i : ℕ) (s : Option ObjectScan) → i < length ss → s ≡ get_or ss i s → HasSoundNames s → AllByRecursion HasSoundNames (take i ss) → AllByRecursion HasSoundNames (take (i + 1) ss)
-sound_step [] i s l is here before = absurd (omega arith)
-sound_step (x ∷ ss) zero s l is here before = (subst HasSoundNames is here, tt)
-sound_step (x ∷ ss) (suc i) s l is here before =
-    let more : suc i + 1 ≡ suc (i + 1) = omega arith in
-    subst (λ n. AllByRecursion HasSoundNames (take n (x ∷ ss))) (sym more) (before.0, sound_step ss i s (omega arith) is here before.1)
+-- the names of some scans so far, where these scans, so many, are left
+pub record Gathers (gs : List (Name × List ℕ)) (first : ℕ) (left : Scans) (count : ℕ) (ss : Scans) : Type 0 where
+  pub words : add_all gs (words_from first left) ≡ add_all [] (words_from 0 ss)
+  pub units : first + unit_total left ≡ unit_total ss
+  pub counted : count ≡ length left
+  pub done : Scans
+  pub parts : done ++ left ≡ ss
+  pub sound : AllByRecursion HasSoundNames done
 
-pub sound_end : (ss : Scans) (i : ℕ) → length ss ≤ i → AllByRecursion HasSoundNames (take i ss) → AllByRecursion HasSoundNames ss
-sound_end [] i le h = tt
-sound_end (s ∷ ss) zero le h = absurd (omega arith)
-sound_end (s ∷ ss) (suc i) le h = (h.0, sound_end ss i (omega arith) h.1)
+sound_push : (ss : Scans) (s : Option ObjectScan) → AllByRecursion HasSoundNames ss → HasSoundNames s → AllByRecursion HasSoundNames (ss ++ s ∷ [])
+sound_push [] s before here = (here, tt)
+sound_push (x ∷ ss) s before here = (before.0, sound_push ss s before.1 here)
+
+-- no object has more units than are left
+pub gathers_within : (gs : List (Name × List ℕ)) (first : ℕ) (left : Scans) (count : ℕ) (ss : Scans) (s : Option ObjectScan) (rest : Scans) → Gathers gs first left count ss → left ≡ s ∷ rest → first + length (units_in_scan s) + unit_total rest ≡ unit_total ss
+gathers_within gs first left count ss s rest g is = omega (arith, ap unit_total is, sum_next (length (units_in_scan s)) (unit_counts rest), g.units)
+
+-- one more scan, taken from the front of those that are left
+pub gathers_more : (gs hs : List (Name × List ℕ)) (first n : ℕ) (left rest : Scans) (count more : ℕ) (ss : Scans) (s : Option ObjectScan)
+    → Gathers gs first left count ss → left ≡ s ∷ rest → more + 1 ≡ count → n ≡ length (units_in_scan s) → hs ≡ add_all gs (words_of_groups first (names_in_scan s)) → HasSoundNames s → Gathers hs (first + n) rest more ss
+gathers_more gs hs first n left rest count more ss s g is one units step here = record {
+  words =
+      ap (λ k. add_all hs (words_from (first + k) rest)) units
+      ∙ ap (λ xs. add_all xs (words_from (first + length (units_in_scan s)) rest)) step
+      ∙ sym (add_all-append gs (words_of_groups first (names_in_scan s)) (words_from (first + length (units_in_scan s)) rest))
+      ∙ sym (ap (λ xs. add_all gs (words_from first xs)) is)
+      ∙ g.words;
+  units = omega (arith, gathers_within gs first left count ss s rest g is, units);
+  counted = omega (arith, one, g.counted, ap length is);
+  done = g.done ++ s ∷ [];
+  parts = append_assoc g.done (s ∷ []) rest ∙ sym (ap (λ xs. g.done ++ xs) is) ∙ g.parts;
+  sound = sound_push g.done s g.sound here;
+}
+
+-- where none is left, these are the names of all, and those of each are sound
+pub gathers_sound : (gs : List (Name × List ℕ)) (first : ℕ) (left : Scans) (count : ℕ) (ss : Scans) → Gathers gs first left count ss → count ≡ 0 → AllByRecursion HasSoundNames ss
+gathers_sound gs first left count ss g none =
+    subst (AllByRecursion HasSoundNames) (sym (append-nil g.done) ∙ sym (ap (λ xs. g.done ++ xs) (nil_from_length left (sym g.counted ∙ none))) ∙ g.parts) g.sound
+
+pub gathers_all : (gs : List (Name × List ℕ)) (first : ℕ) (left : Scans) (count : ℕ) (ss : Scans) → Gathers gs first left count ss → count ≡ 0 → gs ≡ groups (words_from 0 ss)
+gathers_all gs first left count ss g none =
+    sym (ap (λ xs. add_all gs (words_from first xs)) (nil_from_length left (sym g.counted ∙ none))) ∙ g.words ∙ groups-add_all [] (words_from 0 ss)
 
 IsWord : ℕ → Name × ℕ → Type 0
 IsWord limit p = All (λ (c : ℕ). c ≢ 0) p.0 × (unit_number p.1 < limit)

@@ -34,7 +34,7 @@ pub fn scan_objects<'a, C: ElfClass>(
     ensures exact { (e : GdbError_spec) → IsFilesCause C.class (bytes_of files.now) e → e ≢ NoMemory → IsRefusedFor result e }
     ensures complete { (os : List Object) → AreObjectsOf C.class (bytes_of files.now) os → ArePlain C.class (bytes_of files.now) → IfErr result IsOnlyMemory }
 {
-    let mut scans = Vec::new(alloc);
+    let mut scans = Vec::with_capacity(alloc, files.len())?;
     for (object, file) in files.iter().enumerate() {
         match scan_one_object(alloc, object, file, placements) {
             Ok(scan) => scans.push(scan)?,

@@ -87,7 +87,7 @@ fn list_unit_counts(
     requires { unit_total scans.now ≤ 2 ^ 24 }
     ensures { IfOk result (λ counts. counts.items ≡ unit_counts scans.now) }
 {
-    let mut counts = Vec::new(alloc);
+    let mut counts = Vec::with_capacity(alloc, scans.len())?;
     for scan in scans {
         counts.push(units_of(scan).len() as u32)?;
     }
@@ -111,15 +111,16 @@ fn place_units(units: &mut Vec<CuBoundary>, at: u64, list: &[CuBoundary]) -> Res
     Ok(place)
 }
 
-/// The units of all objects, one behind another.
+/// The units of all objects, one behind another: so many.
 fn placed_units(
     alloc: Global,
     scans: &[Option<PerObjectScan<'_>>],
+    count: usize,
 ) -> Result<Vec<CuBoundary>, AllocError>
     requires { length scans.now < 2 ^ 24 }
     ensures { IfOk result (λ units. units.items ≡ one_behind_another 0 (units_in_scans scans.now)) }
 {
-    let mut units = Vec::new(alloc);
+    let mut units = Vec::with_capacity(alloc, count)?;
     let mut place = 0;
     for scan in scans {
         place = place_units(&mut units, place, units_of(scan))?;
@@ -132,7 +133,7 @@ fn words_of(alloc: Global, first: u32, marks: &[Mark]) -> Result<Vec<u32>, Alloc
     requires { All (λ m. first + m.unit < 2 ^ 24) marks.now }
     ensures { IfOk result (λ words. words.items ≡ map (mark_word first) marks.now) }
 {
-    let mut words = Vec::new(alloc);
+    let mut words = Vec::with_capacity(alloc, marks.len())?;
     for mark in marks {
         words.push(encode_cu_vector_entry(first + mark.unit as u32, mark.flag))?;
     }
@@ -158,20 +159,20 @@ fn publish_scan<'a>(
     Ok(())
 }
 
-/// The words of each name, in input order.
+/// The words of each name, in input order. Each scan is given up as soon as its names are published.
 fn gather_words<'a>(
     alloc: Global,
-    scans: &[Option<PerObjectScan<'a>>],
+    scans: Vec<Option<PerObjectScan<'a>>>,
 ) -> Result<IndexMap<&'a [u8], Vec<u32>>, AllocError>
-    requires { unit_total scans.now ≤ 2 ^ 24 }
-    ensures words { IfOk result (λ names. shown names.entries ≡ groups (words_from 0 scans.now)) }
-    ensures sound { OnOk result (AllByRecursion HasSoundNames scans.now) }
+    requires { unit_total scans.items ≤ 2 ^ 24 }
+    ensures words { IfOk result (λ names. shown names.entries ≡ groups (words_from 0 scans.entry.items)) }
+    ensures sound { OnOk result (AllByRecursion HasSoundNames scans.entry.items) }
 {
     let mut names = IndexMap::new(alloc);
     let mut first = 0;
     for scan in scans {
-        publish_scan(&mut names, alloc, first, scan)?;
-        first += units_of(scan).len() as u32;
+        publish_scan(&mut names, alloc, first, &scan)?;
+        first += units_of(&scan).len() as u32;
     }
     Ok(names)
 }
@@ -195,7 +196,7 @@ fn sorted_names<'a>(
     ensures sorted { IfOk result (λ list. AreSorted (shown names.entry.entries) (all_named list.items)) }
     ensures fit { IfOk result (λ list. HaveSmallWords (all_named list.items)) }
 {
-    let mut list = Vec::new(alloc);
+    let mut list = Vec::with_capacity(alloc, names.len())?;
     for (name, words) in names {
         let sorted = sorted_name(name, words)?;
         list.push(sorted)?;
@@ -205,28 +206,6 @@ fn sorted_names<'a>(
 
 /// The most units that the words of an index can number.
 const MAX_UNITS: u64 = 1 << 24;
-
-/// The merge of some scans.
-fn merge_scans<'a>(
-    alloc: Global,
-    scans: &[Option<PerObjectScan<'a>>],
-) -> Result<GdbIndexScanResult<'a>, GdbError>
-    requires { length scans.now < 2 ^ 24 }
-    ensures merged { IfOk result (IsMergeOf scans.now) }
-    ensures objects { IfOk result (λ merged. (os : List Object) → AreScansOf os scans.now → ListsPublished (published os) merged.names) }
-    ensures cause { IfErr result (IsMergeCause scans.now) }
-{
-    let count = count_units(scans);
-    if count > MAX_UNITS {
-        return Err(GdbError::TooManyUnits(count));
-    }
-    let units = placed_units(alloc, scans)?;
-    let counts = list_unit_counts(alloc, scans)?;
-    let words = gather_words(alloc, scans)?;
-    let names = sorted_names(alloc, words)?;
-    let placed = count_placed(scans);
-    Ok(GdbIndexScanResult::new(units, names, placed, counts))
-}
 
 /// The merge of the scans of all objects, one scan per object, in input order: all units, each with an offset that
 /// sums the lengths of all units before it; the names in the order of first publication, each with its words in
@@ -243,5 +222,15 @@ pub fn merge_gdb_index_scans<'a>(
     ensures objects { IfOk result (λ merged. (os : List Object) → AreScansOf os scans.entry.items → ListsPublished (published os) merged.names) }
     ensures cause { IfErr result (IsMergeCause scans.entry.items) }
 {
-    merge_scans(alloc, &scans)
+    let all = scans.as_slice();
+    let count = count_units(all);
+    if count > MAX_UNITS {
+        return Err(GdbError::TooManyUnits(count));
+    }
+    let units = placed_units(alloc, all, count as usize)?;
+    let counts = list_unit_counts(alloc, all)?;
+    let placed = count_placed(all);
+    let words = gather_words(alloc, scans)?;
+    let names = sorted_names(alloc, words)?;
+    Ok(GdbIndexScanResult::new(units, names, placed, counts))
 }

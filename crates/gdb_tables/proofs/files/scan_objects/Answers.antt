@@ -11,22 +11,27 @@ use Rattle.gdb_tables.proofs.Sounding.{placed_few}
 use Rattle.gdb_tables.proofs.files.scan_objects.Goals as goal
 
 pub loop-object-init : goal.loop-object-init
-loop-object-init g c = record { done = scanned_none g.C.ElfClass.class c.args.placements.now c.new-scans.result.items c.new-scans.ensures.items }
+loop-object-init g c = record { done = scanned_none g.C.ElfClass.class c.args.placements.now c.in_ok-scans.scans.items c.in_ok-scans.ensures.items }
+
+pub returns-in_err-scans-clause-cause : goal.returns-in_err-scans-clause-cause
+returns-in_err-scans-clause-cause g c =
+    let p = err_from_is_err_and c.from_residual.result c.from_residual.ensures.1 in
+    holds_of (IsFilesCause g.C.ElfClass.class (bytes_of c.args.files.now)) c.from_residual.result NoMemory (p.1 ∙ ap (λ e. Err e) p.2) no_memory
 
 pub scan_one_object-requires-clause-named : goal.scan_one_object-requires-clause-named
 scan_one_object-requires-clause-named g c = names_sections_of g.C.ElfClass.class (bytes_of c.args.files.now) c.args.placements.now c.loop-object.object c.index-files-object.result.bytes c.requires.placements (file_at c.args.files.now c.loop-object.object c.index-files-object.result (omega arith) c.index-files-object.is)
 
 pub returns-in_err-push-in-Ok-clause-cause : goal.returns-in_err-push-in-Ok-clause-cause
 returns-in_err-push-in-Ok-clause-cause g c =
-    let p = err_from_is_err_and c.from_residual.result c.from_residual.ensures.1 in
-    holds_of (IsFilesCause g.C.ElfClass.class (bytes_of c.args.files.now)) c.from_residual.result NoMemory (p.1 ∙ ap (λ e. Err e) p.2) no_memory
+    let p = err_from_is_err_and c.from_residual-in_err-push-in-Ok.result c.from_residual-in_err-push-in-Ok.ensures.1 in
+    holds_of (IsFilesCause g.C.ElfClass.class (bytes_of c.args.files.now)) c.from_residual-in_err-push-in-Ok.result NoMemory (p.1 ∙ ap (λ e. Err e) p.2) no_memory
 
 pub returns-in_err-push-in-Ok-clause-exact : goal.returns-in_err-push-in-Ok-clause-exact
 returns-in_err-push-in-Ok-clause-exact g c =
     let class = g.C.ElfClass.class in
     let files = bytes_of c.args.files.now in
-    let p = err_from_is_err_and c.from_residual.result c.from_residual.ensures.1 in
-    λ e cause some. refused_by (IsFilesCause class files) c.from_residual.result NoMemory e (one_files_cause class files) (p.1 ∙ ap (λ x. Err x) p.2) (returns-in_err-push-in-Ok-clause-cause g c) cause some
+    let p = err_from_is_err_and c.from_residual-in_err-push-in-Ok.result c.from_residual-in_err-push-in-Ok.ensures.1 in
+    λ e cause some. refused_by (IsFilesCause class files) c.from_residual-in_err-push-in-Ok.result NoMemory e (one_files_cause class files) (p.1 ∙ ap (λ x. Err x) p.2) (returns-in_err-push-in-Ok-clause-cause g c) cause some
 
 pub returns-in-Err-clause-cause : goal.returns-in-Err-clause-cause
 returns-in-Err-clause-cause g c =
@@ -38,7 +43,7 @@ pub returns-in-Err-clause-exact : goal.returns-in-Err-clause-exact
 returns-in-Err-clause-exact g c = λ e cause some. told_files g.C.ElfClass.class (bytes_of c.args.files.now) c.in-Err.error e (returns-in-Err-clause-cause g c) cause some
 
 pub returns-in_err-push-in-Ok-clause-complete : goal.returns-in_err-push-in-Ok-clause-complete
-returns-in_err-push-in-Ok-clause-complete g c = λ os held plain. only_memory_in_files g.C.ElfClass.class (bytes_of c.args.files.now) os c.from_residual.result held plain (returns-in_err-push-in-Ok-clause-cause g c)
+returns-in_err-push-in-Ok-clause-complete g c = λ os held plain. only_memory_in_files g.C.ElfClass.class (bytes_of c.args.files.now) os c.from_residual-in_err-push-in-Ok.result held plain (returns-in_err-push-in-Ok-clause-cause g c)
 
 pub returns-in-Err-clause-complete : goal.returns-in-Err-clause-complete
 returns-in-Err-clause-complete g c = λ os held plain. no_files_cause g.C.ElfClass.class (bytes_of c.args.files.now) os c.in-Err.error held plain (returns-in-Err-clause-cause g c)
