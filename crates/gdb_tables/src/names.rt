@@ -18,7 +18,7 @@ pub(crate) fn publish<'a, X: Drop>(
     match names.get_index_of(&name) {
         Some(index) => names[index].push(value)?,
         None => {
-            let mut values = Vec::new(alloc);
+            let mut values = Vec::with_capacity(alloc, 1)?;
             values.push(value)?;
             names.insert(name, values)?;
         }

@@ -5,7 +5,7 @@ use Rattle.gdb_tables.proofs.names.publish.Goals as goal
 
 pub returns-in_ok-insert-in-None : goal.returns-in_ok-insert-in-None
 returns-in_ok-insert-in-None g c = record {
-  published = ap shown c.in_ok-insert-in-None.ensures.entries ∙ shown-insert c.args.names.now.entries c.args.name _ _ (c.in_ok-push-in-None.ensures.items ∙ ap (λ xs. xs ++ c.args.value ∷ []) c.new-values.ensures.items) (sym c.in-None.ensures.found) ∙ sym (add_list-one (shown c.args.names.now.entries) c.args.name.now c.args.value);
+  published = ap shown c.in_ok-insert-in-None.ensures.entries ∙ shown-insert c.args.names.now.entries c.args.name _ _ (c.in_ok-push-in-None.ensures.items ∙ ap (λ xs. xs ++ c.args.value ∷ []) c.in_ok-values-in-None.ensures.items) (sym c.in-None.ensures.found) ∙ sym (add_list-one (shown c.args.names.now.entries) c.args.name.now c.args.value);
 }
 
 pub returns-in_ok-push-in-Some : goal.returns-in_ok-push-in-Some
