@@ -3,11 +3,24 @@ use Rattle.std.proofs.Common.{◌≡◌, ◌≢◌, ℕ, zero, suc, Bool, true, 
 use Rattle.std.proofs.lemmas.Bool.{le-leb}
 use Rattle.std.proofs.lemmas.List.{get_or-set_same, get_or-set_other, length-set, length-replicate}
 use Rattle.std.proofs.lemmas.Bool.Decides.{nat_tests}
+use Rattle.std.specs.Prelude.{slice_index}
+use Rattle.elf_format.specs.Bytes.{le}
 use Rattle.gdb_index.specs.Passed.{looks_passed}
 
 -- by the length of the bytes and the three that tell
 told_by : ℕ → ℕ → ℕ → ℕ → ℕ → ℕ
 told_by n s low middle high = cond (nat_le (3 * s + 3) n) (low + 256 * middle + 65536 * high) 0
+
+at_itself : (at : ℕ) → at + 0 ≡ at
+at_itself at = omega arith
+
+three_bytes : (bytes : List ℕ) (at : ℕ) → le bytes at 3 ≡ slice_index bytes at + 256 * slice_index bytes (at + 1) + 65536 * slice_index bytes (at + 2)
+unfolding le
+three_bytes bytes at = rw at_itself (omega arith)
+
+told_of : (bytes : List ℕ) (s : ℕ) → looks_passed bytes s ≡ told_by (length bytes) s (slice_index bytes (3 * s)) (slice_index bytes (3 * s + 1)) (slice_index bytes (3 * s + 2))
+unfolding looks_passed told_by
+told_of bytes s = ap (λ (n : ℕ). cond (nat_le (3 * s + 3) (length bytes)) n 0) (three_bytes bytes (3 * s))
 
 same_told : (s n m a b c x y z : ℕ) → n ≡ m → a ≡ x → b ≡ y → c ≡ z → told_by n s a b c ≡ told_by m s x y z
 same_told s n m a b c x y z len low middle high =
@@ -46,34 +59,43 @@ unfolding three_set
 high_byte bytes at low middle high room =
     get_or-set_same (set (set bytes at low) (at + 1) middle) (at + 2) high 0 (omega (arith, room, length-set (set bytes at low) (at + 1) middle, length-set bytes at low))
 
+-- three bytes that were read
+pub looks_read : (bytes : List ℕ) (slot low middle high : ℕ) → 3 * slot + 3 ≤ length bytes → low ≡ slice_index bytes (3 * slot) → middle ≡ slice_index bytes (3 * slot + 1) → high ≡ slice_index bytes (3 * slot + 2) → low + 256 * middle + 65536 * high ≡ looks_passed bytes slot
+unfolding looks_passed
+looks_read bytes slot low middle high room first second third =
+    omega (arith, first, second, third, three_bytes bytes (3 * slot)) ∙ sym (ap (λ t. cond t (le bytes (3 * slot) 3) 0) (le-leb (3 * slot + 3) (length bytes) room))
+
 -- the three bytes of a slot tell the number that was written
 pub looks_written : (bytes : List ℕ) (slot told : ℕ) → 3 * slot + 3 ≤ length bytes → looks_passed (set (set (set bytes (3 * slot) (told % 256)) (3 * slot + 1) (told / 256 % 256)) (3 * slot + 2) (told / 65536)) slot ≡ told
-unfolding looks_passed three_set told_by
+unfolding three_set told_by
 looks_written bytes slot told room =
     let at = 3 * slot in
     let a = told % 256 in
     let b = told / 256 % 256 in
     let c = told / 65536 in
     let whole : a + 256 * b + 65536 * c ≡ told = omega arith in
-    same_told slot (length (three_set bytes at a b c)) (length bytes) _ _ _ a b c (length_three bytes at a b c) (low_byte bytes at a b c room) (middle_byte bytes at a b c room) (high_byte bytes at a b c room)
+    told_of (three_set bytes at a b c) slot
+    ∙ same_told slot (length (three_set bytes at a b c)) (length bytes) _ _ _ a b c (length_three bytes at a b c) (low_byte bytes at a b c room) (middle_byte bytes at a b c room) (high_byte bytes at a b c room)
     ∙ ap (λ t. cond t (a + 256 * b + 65536 * c) 0) (le-leb (3 * slot + 3) (length bytes) room)
     ∙ whole
 
 -- those of another slot tell what they told
 pub looks_kept : (bytes : List ℕ) (slot low middle high s : ℕ) → (s ≡ slot → ⊥) → looks_passed (set (set (set bytes (3 * slot) low) (3 * slot + 1) middle) (3 * slot + 2) high) s ≡ looks_passed bytes s
-unfolding looks_passed three_set told_by
+unfolding three_set
 looks_kept bytes slot a b c s other =
     let at = 3 * slot in
     let apart : (i : ℕ) → i < 3 → get_or (three_set bytes at a b c) (3 * s + i) 0 ≡ get_or bytes (3 * s + i) 0 =
     λ i below. other_byte bytes at a b c (3 * s + i) (λ e. other (omega (arith, e, below))) (λ e. other (omega (arith, e, below))) (λ e. other (omega (arith, e, below))) in
     let first : 3 * s + 0 ≡ 3 * s = omega arith in
-    same_told s (length (three_set bytes at a b c)) (length bytes) _ _ _ _ _ _ (length_three bytes at a b c)
+    told_of (three_set bytes at a b c) s
+    ∙ same_told s (length (three_set bytes at a b c)) (length bytes) _ _ _ _ _ _ (length_three bytes at a b c)
     (ap (λ i. get_or (three_set bytes at a b c) i 0) (sym first) ∙ apart 0 (omega arith) ∙ ap (λ i. get_or bytes i 0) first) (apart 1 (omega arith)) (apart 2 (omega arith))
+    ∙ sym (told_of bytes s)
 
 -- where there are no bytes for a slot, no looks are told of
 pub none_outside : (bytes : List ℕ) (s : ℕ) → length bytes < 3 * s + 3 → looks_passed bytes s ≡ 0
 unfolding looks_passed
-none_outside bytes s outside = ap (λ t. cond t (get_or bytes (3 * s) 0 + 256 * get_or bytes (3 * s + 1) 0 + 65536 * get_or bytes (3 * s + 2) 0) 0) (not_le (3 * s + 3) (length bytes) outside) where
+none_outside bytes s outside = ap (λ t. cond t (le bytes (3 * s) 3) 0) (not_le (3 * s + 3) (length bytes) outside) where
   not_le : (n m : ℕ) → m < n → nat_le n m ≡ false
   not_le n m more = grind (arith, nat_tests)
 
@@ -96,6 +118,7 @@ unfolding told_by
 none_told n s = either (nat_le (3 * s + 3) n) 0 refl
 
 pub none_passed : (n s : ℕ) → looks_passed (replicate n 0) s ≡ 0
-unfolding looks_passed told_by zeros
+unfolding zeros
 none_passed n s =
-    same_told s (length (zeros n)) n _ _ _ 0 0 0 (length-replicate n 0) (zero_byte n (3 * s)) (zero_byte n (3 * s + 1)) (zero_byte n (3 * s + 2)) ∙ none_told n s
+    told_of (zeros n) s
+    ∙ same_told s (length (zeros n)) n _ _ _ 0 0 0 (length-replicate n 0) (zero_byte n (3 * s)) (zero_byte n (3 * s + 1)) (zero_byte n (3 * s + 2)) ∙ none_told n s

@@ -10,7 +10,6 @@ ghost use Rattle.gdb_index.specs.Passed as passed_by;
 pub(crate) const PASSED_LEN: usize = 3;
 
 /// How many looks of the probes that begin at a slot are known to meet taken slots.
-#[tactic(auto, unfolding(crate::specs::Passed::looks_passed))]
 pub(crate) fn looks_passed(passed: &[u8], slot: usize) -> usize
     requires { slot < 2 ^ 32 }
     ensures { result ≡ passed_by.looks_passed passed.now slot }

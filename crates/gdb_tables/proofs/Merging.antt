@@ -126,7 +126,7 @@ marks_fit first count (x ∷ ns) (suc i) n few sound l is = marks_fit first coun
 -- ---- all names
 
 -- the names of some scans so far, where these scans, so many, are left
-pub record Gathers (gs : List (Name × List ℕ)) (first : ℕ) (left : Scans) (count : ℕ) (ss : Scans) : Type 0 where
+pub record Merges (gs : List (Name × List ℕ)) (first : ℕ) (left : Scans) (count : ℕ) (ss : Scans) : Type 0 where
   pub words : add_all gs (words_from first left) ≡ add_all [] (words_from 0 ss)
   pub units : first + unit_total left ≡ unit_total ss
   pub counted : count ≡ length left
@@ -139,20 +139,20 @@ sound_push [] s before here = (here, tt)
 sound_push (x ∷ ss) s before here = (before.0, sound_push ss s before.1 here)
 
 -- no object has more units than are left
-pub gathers_within : (gs : List (Name × List ℕ)) (first : ℕ) (left : Scans) (count : ℕ) (ss : Scans) (s : Option ObjectScan) (rest : Scans) → Gathers gs first left count ss → left ≡ s ∷ rest → first + length (units_in_scan s) + unit_total rest ≡ unit_total ss
-gathers_within gs first left count ss s rest g is = omega (arith, ap unit_total is, sum_next (length (units_in_scan s)) (unit_counts rest), g.units)
+pub merges_within : (gs : List (Name × List ℕ)) (first : ℕ) (left : Scans) (count : ℕ) (ss : Scans) (s : Option ObjectScan) (rest : Scans) → Merges gs first left count ss → left ≡ s ∷ rest → first + length (units_in_scan s) + unit_total rest ≡ unit_total ss
+merges_within gs first left count ss s rest g is = omega (arith, ap unit_total is, sum_next (length (units_in_scan s)) (unit_counts rest), g.units)
 
 -- one more scan, taken from the front of those that are left
-pub gathers_more : (gs hs : List (Name × List ℕ)) (first n : ℕ) (left rest : Scans) (count more : ℕ) (ss : Scans) (s : Option ObjectScan)
-    → Gathers gs first left count ss → left ≡ s ∷ rest → more + 1 ≡ count → n ≡ length (units_in_scan s) → hs ≡ add_all gs (words_of_groups first (names_in_scan s)) → HasSoundNames s → Gathers hs (first + n) rest more ss
-gathers_more gs hs first n left rest count more ss s g is one units step here = record {
+pub merges_more : (gs hs : List (Name × List ℕ)) (first n : ℕ) (left rest : Scans) (count more : ℕ) (ss : Scans) (s : Option ObjectScan)
+    → Merges gs first left count ss → left ≡ s ∷ rest → more + 1 ≡ count → n ≡ length (units_in_scan s) → hs ≡ add_all gs (words_of_groups first (names_in_scan s)) → HasSoundNames s → Merges hs (first + n) rest more ss
+merges_more gs hs first n left rest count more ss s g is one units step here = record {
   words =
       ap (λ k. add_all hs (words_from (first + k) rest)) units
       ∙ ap (λ xs. add_all xs (words_from (first + length (units_in_scan s)) rest)) step
       ∙ sym (add_all-append gs (words_of_groups first (names_in_scan s)) (words_from (first + length (units_in_scan s)) rest))
       ∙ sym (ap (λ xs. add_all gs (words_from first xs)) is)
       ∙ g.words;
-  units = omega (arith, gathers_within gs first left count ss s rest g is, units);
+  units = omega (arith, merges_within gs first left count ss s rest g is, units);
   counted = omega (arith, one, g.counted, ap length is);
   done = g.done ++ s ∷ [];
   parts = append_assoc g.done (s ∷ []) rest ∙ sym (ap (λ xs. g.done ++ xs) is) ∙ g.parts;
@@ -160,12 +160,12 @@ gathers_more gs hs first n left rest count more ss s g is one units step here = 
 }
 
 -- where none is left, these are the names of all, and those of each are sound
-pub gathers_sound : (gs : List (Name × List ℕ)) (first : ℕ) (left : Scans) (count : ℕ) (ss : Scans) → Gathers gs first left count ss → count ≡ 0 → AllByRecursion HasSoundNames ss
-gathers_sound gs first left count ss g none =
+pub merges_sound : (gs : List (Name × List ℕ)) (first : ℕ) (left : Scans) (count : ℕ) (ss : Scans) → Merges gs first left count ss → count ≡ 0 → AllByRecursion HasSoundNames ss
+merges_sound gs first left count ss g none =
     subst (AllByRecursion HasSoundNames) (sym (append-nil g.done) ∙ sym (ap (λ xs. g.done ++ xs) (nil_from_length left (sym g.counted ∙ none))) ∙ g.parts) g.sound
 
-pub gathers_all : (gs : List (Name × List ℕ)) (first : ℕ) (left : Scans) (count : ℕ) (ss : Scans) → Gathers gs first left count ss → count ≡ 0 → gs ≡ groups (words_from 0 ss)
-gathers_all gs first left count ss g none =
+pub merges_all : (gs : List (Name × List ℕ)) (first : ℕ) (left : Scans) (count : ℕ) (ss : Scans) → Merges gs first left count ss → count ≡ 0 → gs ≡ groups (words_from 0 ss)
+merges_all gs first left count ss g none =
     sym (ap (λ xs. add_all gs (words_from first xs)) (nil_from_length left (sym g.counted ∙ none))) ∙ g.words ∙ groups-add_all [] (words_from 0 ss)
 
 IsWord : ℕ → Name × ℕ → Type 0
