@@ -18,7 +18,7 @@ const DEBUG_INFO: &str = ".debug_info";
 
 /// Whether the section at an index holds sets of names: `.debug_gnu_pubnames` or `.debug_gnu_pubtypes`.
 pub fn is_names_section<C: ElfClass>(file: &File<'_, C>, index: SectionIndex) -> bool
-    ensures { (header : List ℕ) → slice_get (sections C.class file.now.bytes) index.0 ≡ Some header → result ≡ objects.is_names_section C.class file.now.bytes header }
+    ensures { (header : List ℕ) → slice_get (sections C.class file.now.bytes) index.0 ≡ Some header → result ≡ objects.is_pubnames_section C.class file.now.bytes header }
 {
     file.has_name(index, b".debug_gnu_pubnames") || file.has_name(index, b".debug_gnu_pubtypes")
 }

@@ -6,7 +6,7 @@ use Rattle.elf_format.specs.declared.index.Span.{Span}
 use Rattle.elf_format.specs.Class.{class64}
 use Rattle.elf_format.specs.Span as spans
 use Rattle.elf_view.specs.Parsed.{Parsed}
-use Rattle.gdb_tables.specs.Files.{bytes_of, ArePlacedIn}
+use Rattle.gdb_tables.specs.Files.{file_bytes, ArePlacedIn}
 use Rattle.gdb_tables.specs.Misplaced.{misplaced}
 use Rattle.gdb_tables.specs.Sized.{IsIndexable}
 use Rattle.sframe_format.specs.Valid as frames
@@ -17,15 +17,15 @@ use Rattle.derivation.specs.Objects.{objects_of, parsed_of, index_version}
 use Rattle.derivation.specs.Valid.{HasSpans, HasObjects, HasPlacements, HasIndex, AreRelocated, HasRelocations, IsValid}
 use Rattle.derivation.specs.Cause.{IsUnsized, IsUnrelocated, IsUnordered, HasCause, in_placements, in_index, in_relocations, in_sframe}
 
-bytes_again : (buffer : List ℕ) (list : List Span) → bytes_of (parsed_of buffer list) ≡ objects_of buffer list
+bytes_again : (buffer : List ℕ) (list : List Span) → file_bytes (parsed_of buffer list) ≡ objects_of buffer list
 bytes_again buffer [] = refl
-bytes_again buffer (span ∷ list) = ap (λ (rest : List (List ℕ)). spans.bytes_of buffer span ∷ rest) (bytes_again buffer list)
+bytes_again buffer (span ∷ list) = ap (λ (rest : List (List ℕ)). spans.span_bytes buffer span ∷ rest) (bytes_again buffer list)
 
 -- the objects' bytes, by the objects that were parsed
-bytes_are : (input : Input) (parsed : List Parsed) → parsed ≡ parsed_of input.buffer input.objects → bytes_of parsed ≡ objects_of input.buffer input.objects
-bytes_are input parsed same = ap (λ (list : List Parsed). bytes_of list) same ∙ bytes_again input.buffer input.objects
+bytes_are : (input : Input) (parsed : List Parsed) → parsed ≡ parsed_of input.buffer input.objects → file_bytes parsed ≡ objects_of input.buffer input.objects
+bytes_are input parsed same = ap (λ (list : List Parsed). file_bytes list) same ∙ bytes_again input.buffer input.objects
 
-short : (buffer : List ℕ) (span : Span) → length (spans.bytes_of buffer span) ≤ length buffer
+short : (buffer : List ℕ) (span : Span) → length (spans.span_bytes buffer span) ≤ length buffer
 short buffer span = omega (arith, length-take (span.stop - span.start) (drop span.start buffer), length-drop span.start buffer)
 
 short_files : (buffer : List ℕ) (list : List Span) → length buffer < 2 ^ 39 → All (λ file. length file.bytes < 2 ^ 39) (parsed_of buffer list)
@@ -36,18 +36,18 @@ short_files buffer (span ∷ list) small (suc k) d below = short_files buffer li
 pub small_files : (buffer : List ℕ) (list : List Span) (parsed : List Parsed) → parsed ≡ parsed_of buffer list → length buffer < 2 ^ 39 → All (λ file. length file.bytes < 2 ^ 39) parsed
 small_files buffer list parsed same small = subst (λ (fs : List Parsed). All (λ file. length file.bytes < 2 ^ 39) fs) (sym same) (short_files buffer list small)
 
-placed_at : (input : Input) (parsed : List Parsed) → parsed ≡ parsed_of input.buffer input.objects → ArePlacedIn class64 (bytes_of parsed) input.placements → HasPlacements input
+placed_at : (input : Input) (parsed : List Parsed) → parsed ≡ parsed_of input.buffer input.objects → ArePlacedIn class64 (file_bytes parsed) input.placements → HasPlacements input
 placed_at input parsed same placed = subst (λ (files : List (List ℕ)). ArePlacedIn class64 files input.placements) (bytes_are input parsed same) placed
 
-indexed_at : (input : Input) (parsed : List Parsed) → parsed ≡ parsed_of input.buffer input.objects → IsIndexable index_version class64 (bytes_of parsed) input.placements → HasIndex input
+indexed_at : (input : Input) (parsed : List Parsed) → parsed ≡ parsed_of input.buffer input.objects → IsIndexable index_version class64 (file_bytes parsed) input.placements → HasIndex input
 indexed_at input parsed same indexable = subst (λ (files : List (List ℕ)). IsIndexable index_version class64 files input.placements) (bytes_are input parsed same) indexable
 
-pub misplaced_cause : (input : Input) (parsed : List Parsed) (place : ℕ) → parsed ≡ parsed_of input.buffer input.objects → HasSpans input → HasObjects input → Some place ≡ misplaced class64 (bytes_of parsed) input.placements → HasCause input (BadPlacement place)
+pub misplaced_cause : (input : Input) (parsed : List Parsed) (place : ℕ) → parsed ≡ parsed_of input.buffer input.objects → HasSpans input → HasObjects input → Some place ≡ misplaced class64 (file_bytes parsed) input.placements → HasCause input (BadPlacement place)
 misplaced_cause input parsed place same inside sound found =
     in_placements inside sound (place, refl, subst (λ (files : List (List ℕ)). misplaced class64 files input.placements ≡ Some place) (bytes_are input parsed same) (sym found))
 
-pub index_cause : (input : Input) (parsed : List Parsed) (e : DeriveError) → parsed ≡ parsed_of input.buffer input.objects → HasSpans input → HasObjects input → ArePlacedIn class64 (bytes_of parsed) input.placements
-    → (e ≡ NoMemory) ⊎ (IsUnsized (bytes_of parsed) input.placements e ⊎ (IsIndexable index_version class64 (bytes_of parsed) input.placements × IsUnrelocated parsed e)) → (e ≡ NoMemory) ⊎ HasCause input e
+pub index_cause : (input : Input) (parsed : List Parsed) (e : DeriveError) → parsed ≡ parsed_of input.buffer input.objects → HasSpans input → HasObjects input → ArePlacedIn class64 (file_bytes parsed) input.placements
+    → (e ≡ NoMemory) ⊎ (IsUnsized (file_bytes parsed) input.placements e ⊎ (IsIndexable index_version class64 (file_bytes parsed) input.placements × IsUnrelocated parsed e)) → (e ≡ NoMemory) ⊎ HasCause input e
 index_cause input parsed e same inside sound placed cause =
     elim cause [
       | inl memory ↦ inl memory
@@ -60,7 +60,7 @@ index_cause input parsed e same inside sound placed cause =
 relocated_at : (input : Input) (parsed : List Parsed) → parsed ≡ parsed_of input.buffer input.objects → AreRelocated parsed → HasRelocations input
 relocated_at input parsed same relocated = subst (λ (fs : List Parsed). AreRelocated fs) same relocated
 
-pub valid_input : (input : Input) (parsed : List Parsed) → parsed ≡ parsed_of input.buffer input.objects → HasSpans input → HasObjects input → ArePlacedIn class64 (bytes_of parsed) input.placements → IsIndexable index_version class64 (bytes_of parsed) input.placements → AreRelocated parsed → frames.IsValid input.sframe input.ranges → IsValid input
+pub valid_input : (input : Input) (parsed : List Parsed) → parsed ≡ parsed_of input.buffer input.objects → HasSpans input → HasObjects input → ArePlacedIn class64 (file_bytes parsed) input.placements → IsIndexable index_version class64 (file_bytes parsed) input.placements → AreRelocated parsed → frames.IsSortable input.sframe input.ranges → IsValid input
 valid_input input parsed same inside sound placed indexable relocated ordered = record {
   spans = inside;
   objects = sound;
@@ -70,7 +70,7 @@ valid_input input parsed same inside sound placed indexable relocated ordered = 
   sframe = ordered;
 }
 
-pub sframe_cause : (input : Input) (parsed : List Parsed) (e : DeriveError) → parsed ≡ parsed_of input.buffer input.objects → HasSpans input → HasObjects input → ArePlacedIn class64 (bytes_of parsed) input.placements → IsIndexable index_version class64 (bytes_of parsed) input.placements → AreRelocated parsed
+pub sframe_cause : (input : Input) (parsed : List Parsed) (e : DeriveError) → parsed ≡ parsed_of input.buffer input.objects → HasSpans input → HasObjects input → ArePlacedIn class64 (file_bytes parsed) input.placements → IsIndexable index_version class64 (file_bytes parsed) input.placements → AreRelocated parsed
     → (e ≡ NoMemory) ⊎ IsUnordered input.sframe input.ranges e → (e ≡ NoMemory) ⊎ HasCause input e
 sframe_cause input parsed e same inside sound placed indexable relocated cause =
     elim cause [

@@ -23,11 +23,11 @@ use Rattle.gdb_index_format.specs.declared.unit.CuBoundary.{CuBoundary}
 use Rattle.gdb_index_format.specs.Named.{Named, all_named, IsNamed, AreNamesOf, AreDistinct, AnswersAll}
 use Rattle.gdb_index_format.specs.Objects.{AreObjectsOf}
 use Rattle.gdb_index_format.specs.Placed.{placed}
-use Rattle.gdb_index_format.specs.Published.{Object, Pair, IsWordsOf, published, units_of_all}
+use Rattle.gdb_index_format.specs.Published.{Object, Pair, IsVectorOf, published, units_of_all}
 use Rattle.gdb_index_format.specs.Size.{IsSize, counts_of}
 use Rattle.gdb_index_format.specs.Units.{index_units}
 use Rattle.gdb_tables.specs.Addresses.{addresses}
-use Rattle.gdb_tables.specs.Files.{bytes_of}
+use Rattle.gdb_tables.specs.Files.{file_bytes}
 use Rattle.gdb_tables.specs.Sized.{SizesIndex, IsScanOfAll}
 use Rattle.derivation.specs.Derived.{IsLaidOut, IsIndexOf}
 use Rattle.derivation.specs.Objects.{index_version}
@@ -51,7 +51,7 @@ named_again ns ms name i same is =
 
 names_again : (ps : List Pair) (ns ms : List Named) → IsPermutation ns ms → AreNamesOf ps ns → AreNamesOf ps ms
 names_again ps ns ms same names = record {
-  words = All-permutation (λ n. (n.words ≢ []) × IsWordsOf n.name ps n.words) ns ms same names.words;
+  words = All-permutation (λ n. (n.words ≢ []) × IsVectorOf n.name ps n.words) ns ms same names.words;
   all = λ k d below. let one = names.all k d below in named_again ns ms (get_or ps k d).name one.0 same one.1;
 }
 
@@ -87,16 +87,16 @@ distinct_again ns ms same distinct i j d below beyond equal =
       ]
     ]
 
-laid_out : (os : List Object) (count : ℕ) (entries : List AddressEntry) (scan : Scan) (units : List CuBoundary) (index : List ℕ) → units ≡ units_of_all os → 0 < length (units_of_all os) → IsScanOfAll os count scan → layout.IsIndexOf index_version scan entries index → IsLaidOut os count entries units index
+laid_out : (os : List Object) (count : ℕ) (entries : List AddressEntry) (scan : Scan) (units : List CuBoundary) (index : List ℕ) → units ≡ units_of_all os → 0 < length (units_of_all os) → IsScanOfAll os count scan → layout.IsLayoutOf index_version scan entries index → IsLaidOut os count entries units index
 laid_out os count entries scan [] index are some of_all is = absurd (omega (arith, some, ap length are))
 laid_out os count entries scan (u ∷ us) index are some of_all is = (scan, of_all, is)
 
 -- the index of a scan of all objects
 pub indexed : (parsed : List Parsed) (placements : List Placement) (size : ℕ) (scan : Scan) (entries : List AddressEntry) (units : List CuBoundary) (names : List NameWords) (index : List ℕ)
-    → SizesIndex index_version class64 (bytes_of parsed) placements size (Some scan)
-    → ((os : List Object) → AreObjectsOf class64 (bytes_of parsed) os → entries ≡ addresses class64 parsed os placements)
+    → SizesIndex index_version class64 (file_bytes parsed) placements size (Some scan)
+    → ((os : List Object) → AreObjectsOf class64 (file_bytes parsed) os → entries ≡ addresses class64 parsed os placements)
     → length index ≡ size
-    → layout.IsIndexOf index_version scan entries index
+    → layout.IsLayoutOf index_version scan entries index
     → index_units index ≡ scan.units
     → ((ps : List Pair) → AreNamesOf ps scan.names → AnswersAll index ps)
     → units ≡ scan.units
@@ -105,7 +105,7 @@ pub indexed : (parsed : List Parsed) (placements : List Placement) (size : ℕ) 
     → IsIndexOf class64 parsed placements units names index
 indexed parsed placements size scan entries units names index sized addressed len is listed answers are same ascending =
     let os = sized.objects in
-    let scanned : IsScanOfAll os (length (placed class64 (bytes_of parsed) os placements)) scan = sized.scanned in
+    let scanned : IsScanOfAll os (length (placed class64 (file_bytes parsed) os placements)) scan = sized.scanned in
     record {
       objects = os;
       held = sized.held;
@@ -117,6 +117,6 @@ indexed parsed placements size scan entries units names index sized addressed le
         distinct = distinct_again scan.names (all_named names) same scanned.names.distinct;
         ascending = ascending;
       };
-      size = subst (λ n. IsSize index_version (counts_of os (length (placed class64 (bytes_of parsed) os placements))) n) (sym len) sized.size_is;
-      laid_out = subst (λ (list : List AddressEntry). IsLaidOut os (length (placed class64 (bytes_of parsed) os placements)) list units index) (addressed os sized.held) (laid_out os (length (placed class64 (bytes_of parsed) os placements)) entries scan units index (are ∙ scanned.units) scanned.some scanned is);
+      size = subst (λ n. IsSize index_version (counts_of os (length (placed class64 (file_bytes parsed) os placements))) n) (sym len) sized.size_is;
+      laid_out = subst (λ (list : List AddressEntry). IsLaidOut os (length (placed class64 (file_bytes parsed) os placements)) list units index) (addressed os sized.held) (laid_out os (length (placed class64 (file_bytes parsed) os placements)) entries scan units index (are ∙ scanned.units) scanned.some scanned is);
     }

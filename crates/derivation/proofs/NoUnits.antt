@@ -10,19 +10,19 @@ use Rattle.gdb_index_format.specs.declared.unit.CuBoundary.{CuBoundary}
 use Rattle.gdb_index_format.specs.Named.{AnswersAll}
 use Rattle.gdb_index_format.specs.Names.{NameSet}
 use Rattle.gdb_index_format.specs.Probe.{probe}
-use Rattle.gdb_index_format.specs.Published.{Object, Pair, one_behind_another, units_in_objects, units_of_all, pairs_of, published_from, published}
+use Rattle.gdb_index_format.specs.Published.{Object, Pair, end_to_end, units_in_objects, units_of_all, pairs_of, published_from, published}
 use Rattle.gdb_index_format.specs.Placed.{placed}
 use Rattle.gdb_index_format.specs.Size.{Counts, IsSize, counts_of}
 use Rattle.gdb_index_format.specs.Units.{index_units}
 use Rattle.gdb_index_format.proofs.ObjectLists.{objects_are_one_lem}
 use Rattle.gdb_tables.specs.Addresses.{fault_from}
-use Rattle.gdb_tables.specs.Files.{bytes_of}
+use Rattle.gdb_tables.specs.Files.{file_bytes}
 use Rattle.gdb_tables.specs.Sized.{SizesIndex}
 use Rattle.derivation.specs.Derived.{ListsNames, IsIndexOf}
 use Rattle.derivation.specs.Objects.{index_version}
 use Rattle.derivation.specs.Valid.{AreRelocated}
 
-none_in_order : (at : ℕ) (us : List CuBoundary) → one_behind_another at us ≡ [] → us ≡ []
+none_in_order : (at : ℕ) (us : List CuBoundary) → end_to_end at us ≡ [] → us ≡ []
 none_in_order at [] none = refl
 none_in_order at (u ∷ us) none = cc
 
@@ -79,7 +79,7 @@ size_none version n size is none = record { slots = is.slots; counted = is.count
 
 -- the index of objects without a unit
 pub indexed_none : (parsed : List Parsed) (placements : List Placement) (size : ℕ) (units : List CuBoundary) (names : List NameWords) (index : List ℕ)
-    → SizesIndex index_version class64 (bytes_of parsed) placements size None → units ≡ [] → names ≡ [] → index ≡ [] → IsIndexOf class64 parsed placements units names index
+    → SizesIndex index_version class64 (file_bytes parsed) placements size None → units ≡ [] → names ≡ [] → index ≡ [] → IsIndexOf class64 parsed placements units names index
 indexed_none parsed placements size [] [] [] sized a b c =
     let os = sized.objects in
     let none : units_of_all os ≡ [] = sized.scanned in
@@ -92,15 +92,15 @@ indexed_none parsed placements size [] [] [] sized a b c =
       listed = no_listed ∙ sym none;
       answers = answers_none (published os) nothing;
       names_are = names_none (published os) nothing;
-      size = size_none index_version (counts_of os (length (placed class64 (bytes_of parsed) os placements))) size sized.size_is (ap length none);
+      size = size_none index_version (counts_of os (length (placed class64 (file_bytes parsed) os placements))) size sized.size_is (ap length none);
       laid_out = refl;
     }
 indexed_none parsed placements size (u ∷ us) names index sized a b c = cc
 indexed_none parsed placements size [] (n ∷ ns) index sized a b c = cc
 indexed_none parsed placements size [] [] (x ∷ xs) sized a b c = cc
 
-pub relocated : (parsed : List Parsed) (placements : List Placement) (size : ℕ) → SizesIndex index_version class64 (bytes_of parsed) placements size None → AreRelocated parsed
+pub relocated : (parsed : List Parsed) (placements : List Placement) (size : ℕ) → SizesIndex index_version class64 (file_bytes parsed) placements size None → AreRelocated parsed
 relocated parsed placements size sized os held =
-    let same : sized.objects ≡ os = objects_are_one_lem.one_list class64 (bytes_of parsed) sized.objects os sized.held held in
+    let same : sized.objects ≡ os = objects_are_one_lem.one_list class64 (file_bytes parsed) sized.objects os sized.held held in
     let none : units_of_all sized.objects ≡ [] = sized.scanned in
     relocated_none 0 parsed os (have_none os (none_in_order 0 (units_in_objects os) (subst (λ (l : List Object). units_of_all l ≡ []) same none)))

@@ -12,28 +12,28 @@ use Rattle.gdb_index_format.specs.declared.placement.Placement.{Placement}
 use Rattle.gdb_index_format.specs.declared.unit.CuBoundary.{CuBoundary}
 use Rattle.gdb_index_format.specs.Named.{Named, all_named}
 use Rattle.gdb_index_format.specs.Placed.{placed}
-use Rattle.gdb_index_format.specs.Published.{Object, Pair, IsWordsOf, published, units_of_all}
+use Rattle.gdb_index_format.specs.Published.{Object, Pair, IsVectorOf, published, units_of_all}
 use Rattle.gdb_index_format.specs.Size.{IsSize, counts_of}
 use Rattle.gdb_index_format.proofs.ObjectLists.{objects_are_one_lem}
 use Rattle.gdb_index_format.proofs.Sizing.{sizes_are_one_lem}
 use Rattle.gdb_index_format.proofs.WordLists.{one_list_of_words}
 use Rattle.gdb_tables.specs.Addresses.{addresses}
-use Rattle.gdb_tables.specs.Files.{bytes_of}
+use Rattle.gdb_tables.specs.Files.{file_bytes}
 use Rattle.gdb_tables.specs.Sized.{IsScanOfAll}
 use Rattle.derivation.specs.Derived.{IsLaidOut, IsIndexOf, ListsNames}
 use Rattle.derivation.specs.Objects.{index_version}
 use Rattle.derivation.proofs.OneNames.{one_list_of_names}
 
 HaveWords : List Pair → List Named → Type 0
-HaveWords ps ns = All (λ n. (n.words ≢ []) × IsWordsOf n.name ps n.words) ns
+HaveWords ps ns = All (λ n. (n.words ≢ []) × IsVectorOf n.name ps n.words) ns
 
 named_as : List ℕ → List ℕ → Named
 named_as name words = record { name = name; words = words }
 
-same_named : (ps : List Pair) (n m : Named) → n.name ≡ m.name → IsWordsOf n.name ps n.words → IsWordsOf m.name ps m.words → n ≡ m
+same_named : (ps : List Pair) (n m : Named) → n.name ≡ m.name → IsVectorOf n.name ps n.words → IsVectorOf m.name ps m.words → n ≡ m
 unfolding named_as
 same_named ps n m name left right =
-    let words : n.words ≡ m.words = one_list_of_words n.name ps n.words m.words left (subst (λ (k : List ℕ). IsWordsOf k ps m.words) (sym name) right) in
+    let words : n.words ≡ m.words = one_list_of_words n.name ps n.words m.words left (subst (λ (k : List ℕ). IsVectorOf k ps m.words) (sym name) right) in
     ap (λ k. named_as k n.words) name ∙ ap (λ w. named_as m.name w) words
 
 head_of : {X : Type 0} (d : X) → List X → X
@@ -77,14 +77,14 @@ one_laid os count entries [] [] b d same len left right = left ∙ sym right
 one_laid os count entries [] (v ∷ vs) b d same len left right = cc
 one_laid os count entries (u ∷ us) [] b d same len left right = cc
 one_laid os count entries (u ∷ us) (v ∷ vs) b d same len left right =
-    indexes_are_one_lem index_version left.0 entries b d left.2 (subst (λ (s : Scan). layout.IsIndexOf index_version s entries d) (same_scan os count right.0 left.0 right.1 left.1) right.2) len
+    indexes_are_one_lem index_version left.0 entries b d left.2 (subst (λ (s : Scan). layout.IsLayoutOf index_version s entries d) (same_scan os count right.0 left.0 right.1 left.1) right.2) len
 
 pub one_index : (c : Class) (parsed : List Parsed) (placements : List Placement) (us vs : List CuBoundary) (ns ms : List NameWords) (b d : List ℕ) → IsIndexOf c parsed placements us ns b → IsIndexOf c parsed placements vs ms d → (us ≡ vs) × (all_named ns ≡ all_named ms) × (b ≡ d)
 unfolding HaveWords
 one_index c parsed placements us vs ns ms b d left right =
     let os = left.objects in
-    let same : right.objects ≡ os = objects_are_one_lem.one_list c (bytes_of parsed) right.objects os right.held left.held in
-    let count : List Object → ℕ = λ l. length (placed c (bytes_of parsed) l placements) in
+    let same : right.objects ≡ os = objects_are_one_lem.one_list c (file_bytes parsed) right.objects os right.held left.held in
+    let count : List Object → ℕ = λ l. length (placed c (file_bytes parsed) l placements) in
     let size = subst (λ (l : List Object). IsSize index_version (counts_of l (count l)) (length d)) same right.size in
     let laid = subst (λ (l : List Object). IsLaidOut l (count l) (addresses c parsed l placements) vs d) same right.laid_out in
     let listed = left.names_are in

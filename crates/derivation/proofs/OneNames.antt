@@ -16,7 +16,7 @@ use Rattle.std.proofs.lemmas.Map.Views.{Contains-from_any, list_any-from_Contain
 use Rattle.std.proofs.lemmas.Slice.Eq.{bytes_eq-Decides}
 use Rattle.gdb_index_format.specs.declared.name_words.NameWords.{NameWords}
 use Rattle.gdb_index_format.specs.Named.{Named, named, all_named, AreNamesOf, AreDistinct}
-use Rattle.gdb_index_format.specs.Published.{Pair, words_in_order}
+use Rattle.gdb_index_format.specs.Published.{Pair, elements_in_order}
 
 abbrev names_in : List Named → List (List ℕ)
 names_in ns = map (λ n. n.name) ns
@@ -27,11 +27,11 @@ names_of_pairs ps = map (λ p. p.name) ps
 -- a name with a word is a pair's
 first_or_later : (name : List ℕ) (p : Pair) (ps : List Pair) (same : Bool) → bytes_eq p.name name ≡ same
     → (map (λ (q : Pair). q.word) (cond same (p ∷ filter (λ q. bytes_eq q.name name) ps) (filter (λ q. bytes_eq q.name name) ps)) ≢ [])
-    → ((words_in_order name ps ≢ []) → Contains (names_of_pairs ps) name) → Contains (names_of_pairs (p ∷ ps)) name
+    → ((elements_in_order name ps ≢ []) → Contains (names_of_pairs ps) name) → Contains (names_of_pairs (p ∷ ps)) name
 first_or_later name p ps true is some later = (0, omega arith, (bytes_eq-Decides p.name name).0 is)
 first_or_later name p ps false is some later = let found = later some in (suc found.0, omega (arith, found.1), found.2)
 
-of_some_pair : (name : List ℕ) (ps : List Pair) → (words_in_order name ps ≢ []) → Contains (names_of_pairs ps) name
+of_some_pair : (name : List ℕ) (ps : List Pair) → (elements_in_order name ps ≢ []) → Contains (names_of_pairs ps) name
 of_some_pair name [] some = absurd (some refl)
 of_some_pair name (p ∷ ps) some = first_or_later name p ps (bytes_eq p.name name) refl some (of_some_pair name ps)
 
@@ -47,7 +47,7 @@ module _ (ps : List Pair) (ns : List Named) (are : AreNamesOf ps ns) (name : Lis
       let is : n.name ≡ name = sym (get_or-map (λ (m : Named). m.name) ns found.0 d name below) ∙ found.2 in
       let told = are.words found.0 d below in
       subst (λ (k : List ℕ). Contains (names_of_pairs ps) k) is
-      (of_some_pair n.name ps (λ none. told.0 (no_words (words_in_order n.name ps) n.words told.1.same none)))
+      (of_some_pair n.name ps (λ none. told.0 (no_words (elements_in_order n.name ps) n.words told.1.same none)))
 
   of_name : Contains (names_of_pairs ps) name → Contains (names_in ns) name
   of_name found =

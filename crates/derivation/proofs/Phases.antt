@@ -147,7 +147,7 @@ same_elf p q k l same = ap (λ (found : Option (ℕ × ElfError)). errors.BadElf
 one_unrelocated : (parsed : List Parsed) → IsOne (IsUnrelocated parsed)
 unfolding IsOne
 one_unrelocated parsed e f left right =
-    let same : left.0 ≡ right.0 = objects_are_one_lem.one_list class64 (files.bytes_of parsed) left.0 right.0 left.4 right.4 in
+    let same : left.0 ≡ right.0 = objects_are_one_lem.one_list class64 (files.file_bytes parsed) left.0 right.0 left.4 right.4 in
     let found : first_relocation_fault class64 parsed right.0 ≡ Some (left.1, left.2) = subst (λ (os : List Object). first_relocation_fault class64 parsed os ≡ Some (left.1, left.2)) same left.5 in
     left.3 ∙ same_elf left.1 right.1 left.2 right.2 (sym found ∙ right.5) ∙ sym right.3
 

@@ -44,7 +44,7 @@ unsized bytes placements g e told cause =
       | inr some ↦ inr (g, some, told, cause)
     ]
 
-pub unordered : (sframe : List ℕ) (ranges : List Span) (g : SframeFault) (e : DeriveError) → e ≡ of_sframe_fault g → frames.HasCause sframe ranges g → (e ≡ errors.NoMemory) ⊎ IsUnordered sframe ranges e
+pub unordered : (sframe : List ℕ) (ranges : List Span) (g : SframeFault) (e : DeriveError) → e ≡ of_sframe_fault g → frames.IsSortCause sframe ranges g → (e ≡ errors.NoMemory) ⊎ IsUnordered sframe ranges e
 unordered sframe ranges g e told cause =
     elim (no_sframe_memory g) [
       | inl none ↦ inl (told ∙ sframe_memory_told g none)

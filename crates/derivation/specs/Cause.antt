@@ -56,7 +56,7 @@ IsIndexCause input e = IsUnsized (objects_of input.buffer input.objects) input.p
 -- the object of this place is the first with two units or more for which the relocations of its units are at fault
 abbrev pub IsUnrelocated : List Parsed → DeriveError → Type 0
 IsUnrelocated parsed e =
-    (os : List Object) × (place : ℕ) × (kind : ElfError) × (e ≡ errors.BadElf place kind) × AreObjectsOf class64 (files.bytes_of parsed) os × (first_relocation_fault class64 parsed os ≡ Some (place, kind))
+    (os : List Object) × (place : ℕ) × (kind : ElfError) × (e ≡ errors.BadElf place kind) × AreObjectsOf class64 (files.file_bytes parsed) os × (first_relocation_fault class64 parsed os ≡ Some (place, kind))
 
 abbrev pub IsRelocationCause : Input → DeriveError → Type 0
 IsRelocationCause input e = IsUnrelocated (parsed_of input.buffer input.objects) e
@@ -72,7 +72,7 @@ of_sframe_fault faults.NoMemory = errors.NoMemory
 
 -- the SFrame section is not ordered, for this cause
 abbrev pub IsUnordered : List ℕ → List Span → DeriveError → Type 0
-IsUnordered sframe ranges e = (g : SframeFault) × (g ≢ faults.NoMemory) × (e ≡ of_sframe_fault g) × frames.HasCause sframe ranges g
+IsUnordered sframe ranges e = (g : SframeFault) × (g ≢ faults.NoMemory) × (e ≡ of_sframe_fault g) × frames.IsSortCause sframe ranges g
 
 abbrev pub IsSframeCause : Input → DeriveError → Type 0
 IsSframeCause input e = IsUnordered input.sframe input.ranges e

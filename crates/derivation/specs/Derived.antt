@@ -17,7 +17,7 @@ use Rattle.gdb_index.specs.Scan.{Scan}
 use Rattle.gdb_index.specs.Layout as layout
 use Rattle.elf_view.specs.Parsed.{Parsed}
 use Rattle.gdb_tables.specs.Addresses.{addresses}
-use Rattle.gdb_tables.specs.Files.{bytes_of}
+use Rattle.gdb_tables.specs.Files.{file_bytes}
 use Rattle.gdb_tables.specs.Sized.{IsScanOfAll}
 use Rattle.derivation.specs.Objects.{index_version}
 
@@ -31,16 +31,16 @@ pub record ListsNames (ps : List Pair) (list : List NameWords) : Type 0 where
 -- of zeros, the vectors and the names in the order of first publication, and zeros at the end. Without a unit it has no bytes.
 abbrev pub IsLaidOut : List Object → ℕ → List AddressEntry → List CuBoundary → List ℕ → Type 0
 IsLaidOut os count entries [] index = index ≡ []
-IsLaidOut os count entries (u ∷ us) index = (scan : Scan) × IsScanOfAll os count scan × layout.IsIndexOf index_version scan entries index
+IsLaidOut os count entries (u ∷ us) index = (scan : Scan) × IsScanOfAll os count scan × layout.IsLayoutOf index_version scan entries index
 
 -- The index of files, whose sections are placed so: the units that it lists are those that the objects hold, in input order; and
 -- for every byte string its probe gives the ascending words of the name where some unit publishes it, and else that it is absent.
 pub record IsIndexOf (c : Class) (parsed : List Parsed) (placements : List Placement) (units : List CuBoundary) (names : List NameWords) (index : List ℕ) : Type 0 where
   pub objects : List Object
-  pub held : AreObjectsOf c (bytes_of parsed) objects
+  pub held : AreObjectsOf c (file_bytes parsed) objects
   pub units_are : units ≡ units_of_all objects
   pub listed : index_units index ≡ units_of_all objects
   pub answers : AnswersAll index (published objects)
   pub names_are : ListsNames (published objects) names
-  pub size : IsSize index_version (counts_of objects (length (placed c (bytes_of parsed) objects placements))) (length index)
-  pub laid_out : IsLaidOut objects (length (placed c (bytes_of parsed) objects placements)) (addresses c parsed objects placements) units index
+  pub size : IsSize index_version (counts_of objects (length (placed c (file_bytes parsed) objects placements))) (length index)
+  pub laid_out : IsLaidOut objects (length (placed c (file_bytes parsed) objects placements)) (addresses c parsed objects placements) units index

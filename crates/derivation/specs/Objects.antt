@@ -11,16 +11,16 @@ use Rattle.elf_format.specs.Bytes.{get}
 use Rattle.elf_format.specs.Class.{Class, e_type, e_machine}
 use Rattle.elf_format.specs.Fault.{fault}
 use Rattle.elf_format.specs.Section.{file_header}
-use Rattle.elf_format.specs.Span.{bytes_of}
+use Rattle.elf_format.specs.Span.{span_bytes}
 use Rattle.elf_view.specs.Parsed.{Parsed}
 
 -- the bytes of each object
 abbrev pub objects_of : List ℕ → List Span → List (List ℕ)
-objects_of buffer spans = map (bytes_of buffer) spans
+objects_of buffer spans = map (span_bytes buffer) spans
 
 -- each object as it is parsed
 abbrev pub parsed_at : List ℕ → Span → Parsed
-parsed_at buffer span = record { bytes = bytes_of buffer span; is_dynamic = false }
+parsed_at buffer span = record { bytes = span_bytes buffer span; is_dynamic = false }
 
 abbrev pub parsed_of : List ℕ → List Span → List Parsed
 parsed_of buffer spans = map (parsed_at buffer) spans

@@ -32,7 +32,7 @@ HasIndex input = IsIndexable index_version class64 (objects_of input.buffer inpu
 
 -- in each of these objects that has two units or more, the relocations of its units are read
 abbrev pub AreRelocated : List Parsed → Type 0
-AreRelocated parsed = (os : List Object) → AreObjectsOf class64 (files.bytes_of parsed) os → first_relocation_fault class64 parsed os ≡ None
+AreRelocated parsed = (os : List Object) → AreObjectsOf class64 (files.file_bytes parsed) os → first_relocation_fault class64 parsed os ≡ None
 
 abbrev pub HasRelocations : Input → Type 0
 HasRelocations input = AreRelocated (parsed_of input.buffer input.objects)
@@ -40,7 +40,7 @@ HasRelocations input = AreRelocated (parsed_of input.buffer input.objects)
 -- The ranges lie in the SFrame bytes, which are fewer than 2^32; their contributions are sound; and the merged section has
 -- room, and fits the numbers of its fields.
 abbrev pub HasSframe : Input → Type 0
-HasSframe input = frames.IsValid input.sframe input.ranges
+HasSframe input = frames.IsSortable input.sframe input.ranges
 
 -- each condition by its own name
 pub record IsValid (input : Input) : Type 0 where

@@ -9,8 +9,8 @@ ghost use Rattle.gdb_index_format.specs.Named.{all_named, AreNamesOf, AnswersAll
 ghost use Rattle.gdb_index_format.specs.Published.{Pair};
 ghost use Rattle.gdb_index_format.specs.Units.{index_units};
 ghost use Rattle.gdb_index.specs.Layout as layout;
-ghost use Rattle.gdb_index.specs.Size.{IsIndexSize, counts_of};
-ghost use Rattle.gdb_tables.specs.Files.{bytes_of, ArePlacedIn};
+ghost use Rattle.gdb_index.specs.Size.{IsIndexSize, scan_counts};
+ghost use Rattle.gdb_tables.specs.Files.{file_bytes, ArePlacedIn};
 ghost use Rattle.gdb_tables.specs.Sized.{SizesIndex, IsIndexable};
 ghost use Rattle.derivation.specs.declared.error.DeriveError.TheVariants.{NoMemory};
 ghost use Rattle.derivation.specs.Cause.{IsUnsized, IsUnrelocated};
@@ -56,11 +56,11 @@ fn index_bytes(
     scan: &GdbIndexScanResult<'_>,
     addresses: &[AddressEntry],
 ) -> Result<Vec<u8>, AllocError>
-    requires room { IsIndexSize INDEX_VERSION (counts_of scan.now) size }
+    requires room { IsIndexSize INDEX_VERSION (scan_counts scan.now) size }
     requires some { 1 ≤ size }
     requires addresses { length addresses.now ≤ scan.now.placed }
     ensures size { IfOk result (λ v. length v.items ≡ size) }
-    ensures layout { IfOk result (λ v. layout.IsIndexOf INDEX_VERSION scan.now addresses.now v.items) }
+    ensures layout { IfOk result (λ v. layout.IsLayoutOf INDEX_VERSION scan.now addresses.now v.items) }
     ensures units { IfOk result (λ v. index_units v.items ≡ scan.now.units) }
     ensures published { IfOk result (λ v. (ps : List Pair) → AreNamesOf ps scan.now.names → AnswersAll v.items ps) }
 {
@@ -76,11 +76,11 @@ fn written<'a>(
     scan: GdbIndexScanResult<'a>,
     addresses: &[AddressEntry],
 ) -> Result<IndexTables<'a>, AllocError>
-    requires room { IsIndexSize INDEX_VERSION (counts_of scan) size }
+    requires room { IsIndexSize INDEX_VERSION (scan_counts scan) size }
     requires some { 1 ≤ size }
     requires addresses { length addresses.now ≤ scan.placed }
     ensures size { IfOk result (λ t. length t.index.items ≡ size) }
-    ensures layout { IfOk result (λ t. layout.IsIndexOf INDEX_VERSION scan.entry addresses.now t.index.items) }
+    ensures layout { IfOk result (λ t. layout.IsLayoutOf INDEX_VERSION scan.entry addresses.now t.index.items) }
     ensures listed { IfOk result (λ t. index_units t.index.items ≡ scan.entry.units) }
     ensures published { IfOk result (λ t. (ps : List Pair) → AreNamesOf ps scan.entry.names → AnswersAll t.index.items ps) }
     ensures units { IfOk result (λ t. t.units.items ≡ scan.entry.units) }
@@ -107,9 +107,9 @@ fn tables_of_scan<'a>(
 ) -> Result<IndexTables<'a>, DeriveError>
     requires few { length files.now < 2 ^ 24 }
     requires small { All (λ file. length file.bytes < 2 ^ 39) files.now }
-    requires placements { ArePlacedIn class64 (bytes_of files.now) placements.now }
-    requires sized { SizesIndex INDEX_VERSION class64 (bytes_of files.now) placements.now size (Some scan) }
-    requires room { IsIndexSize INDEX_VERSION (counts_of scan) size }
+    requires placements { ArePlacedIn class64 (file_bytes files.now) placements.now }
+    requires sized { SizesIndex INDEX_VERSION class64 (file_bytes files.now) placements.now size (Some scan) }
+    requires room { IsIndexSize INDEX_VERSION (scan_counts scan) size }
     ensures index { IfOk result (λ t. IsIndexOf class64 files.now placements.now t.units.items t.names.items t.index.items) }
     ensures relocated { OnOk result (AreRelocated files.now) }
     ensures cause { IfErr result (λ e. (e ≡ NoMemory) ⊎ IsUnrelocated files.now e) }
@@ -132,11 +132,11 @@ pub(crate) fn index_tables<'a>(
 ) -> Result<IndexTables<'a>, DeriveError>
     requires few { length files.now < 2 ^ 24 }
     requires small { All (λ file. length file.bytes < 2 ^ 39) files.now }
-    requires placements { ArePlacedIn class64 (bytes_of files.now) placements.now }
+    requires placements { ArePlacedIn class64 (file_bytes files.now) placements.now }
     ensures index { IfOk result (λ t. IsIndexOf class64 files.now placements.now t.units.items t.names.items t.index.items) }
-    ensures indexable { OnOk result (IsIndexable index_version class64 (bytes_of files.now) placements.now) }
+    ensures indexable { OnOk result (IsIndexable index_version class64 (file_bytes files.now) placements.now) }
     ensures relocated { OnOk result (AreRelocated files.now) }
-    ensures cause { IfErr result (λ e. (e ≡ NoMemory) ⊎ (IsUnsized (bytes_of files.now) placements.now e ⊎ (IsIndexable index_version class64 (bytes_of files.now) placements.now × IsUnrelocated files.now e))) }
+    ensures cause { IfErr result (λ e. (e ≡ NoMemory) ⊎ (IsUnsized (file_bytes files.now) placements.now e ⊎ (IsIndexable index_version class64 (file_bytes files.now) placements.now × IsUnrelocated files.now e))) }
 {
     match compute_gdb_index_size(alloc, files, placements) {
         Ok((size, Some(scan))) => {

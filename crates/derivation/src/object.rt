@@ -4,7 +4,7 @@ ghost use Rattle.std.specs.Prelude.{◌≡◌, ◌⊎◌, ℕ, false, List, leng
 ghost use Rattle.std.specs.Result.{result_err};
 ghost use Rattle.elf_format.specs.declared.error.ElfError.{ElfError as ElfError_spec};
 ghost use Rattle.elf_format.specs.Class.{class64};
-ghost use Rattle.elf_format.specs.Span.{AreInside, IsInside, bytes_of};
+ghost use Rattle.elf_format.specs.Span.{AreInside, IsInside, span_bytes};
 ghost use Rattle.derivation.specs.declared.error.DeriveError.TheVariants.{BadElf, NoMemory};
 ghost use Rattle.derivation.specs.Objects.{objects_of, parsed_at, parsed_of, object_fault, AreObjects, IsFirstFaulty};
 
@@ -43,7 +43,7 @@ fn parse_span<'a>(
     expected: Architecture,
 ) -> Result<File<'a, Class64>, ElfError>
     requires { IsInside (length buffer.now) span }
-    ensures fault { result_err result ≡ object_fault class64 expected (bytes_of buffer.now span) }
+    ensures fault { result_err result ≡ object_fault class64 expected (span_bytes buffer.now span) }
     ensures file { IfOk result (λ f. f ≡ parsed_at buffer.now span) }
 {
     match parse_object(&buffer[span.start..span.stop], expected) {

@@ -22,7 +22,7 @@ pub(crate) fn order_sframe(
     base: u64,
 ) -> Result<(Vec<u8>, SframeOutcome), DeriveError>
     ensures sorted { IfOk result (λ ordered. SortOf sframe.now ranges.now ordered.0.items ordered.1) }
-    ensures valid { OnOk result (frames.IsValid sframe.now ranges.now) }
+    ensures valid { OnOk result (frames.IsSortable sframe.now ranges.now) }
     ensures cause { IfErr result (λ e. (e ≡ NoMemory) ⊎ IsUnordered sframe.now ranges.now e) }
 {
     let mut bytes = Vec::with_capacity(alloc, sframe.len())?;

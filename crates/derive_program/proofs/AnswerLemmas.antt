@@ -13,13 +13,13 @@ use Rattle.program_text.specs.Layout.{Said, layout_of}
 use Rattle.program_text.specs.Report.{report_of}
 use Rattle.derive_program.specs.declared.ran.Ran.{Ran}
 use Rattle.derive_program.specs.declared.ran.Ran.TheVariants.{Done, Refused, BadWords, BadLayout, ReadFault, FileTooLong, WriteFault, NoMemory}
-use Rattle.derive_program.specs.Answer.{input_of, IsAnswerFor, IsRefusalOf, HasReportFor}
+use Rattle.derive_program.specs.Answer.{program_input_of, IsAnswerFor, IsRefusalOf, HasReportFor}
 use Rattle.derive_program.specs.Cause.{HasCauseIn}
-use Rattle.derive_program.specs.Input.{Input, AreTablesOf, HasTables}
+use Rattle.derive_program.specs.ProgramInput.{ProgramInput, AreTablesOf, HasTables}
 use Rattle.derive_program.specs.Writing.{IsWritingOf}
 
 -- an input of these parts
-abbrev pub input_with : Architecture → ℕ → List Placement → List Span → List ℕ → List Span → List ℕ → Input
+abbrev pub input_with : Architecture → ℕ → List Placement → List Span → List ℕ → List Span → List ℕ → ProgramInput
 input_with machine base placements ranges buffer objects sframe =
     record { machine = machine; layout = record { placements = placements; ranges = ranges; base = base }; buffer = buffer; objects = objects; sframe = sframe }
 
@@ -32,11 +32,11 @@ same_input machine base placements placements' ranges ranges' buffer buffer' obj
     ∙ ap (λ x. input_with machine base placements' ranges' buffer' objects' x) s
 
 -- what holds of an input holds of the same input
-pub of_same : (given input : Input) (P : Input → Type 0) → given ≡ input → P given → P input
+pub of_same : (given input : ProgramInput) (P : ProgramInput → Type 0) → given ≡ input → P given → P input
 of_same given input P same holds = subst P same holds
 
 -- tables by the names of their parts
-tables_named : (input : Input) (units : List CuBoundary) (names : List NameWords) (index index' sframe sframe' : List ℕ) (outcome outcome' : SframeOutcome) → index' ≡ index → sframe' ≡ sframe → outcome' ≡ outcome → AreTablesOf input units names index sframe outcome → AreTablesOf input units names index' sframe' outcome'
+tables_named : (input : ProgramInput) (units : List CuBoundary) (names : List NameWords) (index index' sframe sframe' : List ℕ) (outcome outcome' : SframeOutcome) → index' ≡ index → sframe' ≡ sframe → outcome' ≡ outcome → AreTablesOf input units names index sframe outcome → AreTablesOf input units names index' sframe' outcome'
 tables_named input units names index index' sframe sframe' outcome outcome' i s o tables =
     let P : List ℕ → Type 0 = λ x. AreTablesOf input units names x sframe outcome in
     let Q : List ℕ → Type 0 = λ x. AreTablesOf input units names index' x outcome in
@@ -49,7 +49,7 @@ report_named units names index index' sframe sframe' outcome outcome' i s o =
     ∙ ap (λ x. report_of units names outcome index' x) (sym s)
     ∙ ap (λ x. report_of units names x index' sframe') (sym o)
 
-pub after_writing : (machine : Architecture) (read : FilesRead) (layout : Said) (units : List CuBoundary) (names : List NameWords) (index sframe : List ℕ) (outcome : SframeOutcome) (steady : Bool) (faults faults_now : ℕ) (written now : Option (List ℕ)) (ran : Ran) → layout_of read.layout.items ≡ Ok layout → AreTablesOf (input_of machine read layout) units names index sframe outcome → ((error : DeriveError) → HasCauseIn (input_of machine read layout) error → ⊥) → IsWritingOf units names index sframe outcome steady faults faults_now written now ran → IsAnswerFor machine read steady faults faults_now written now ran
+pub after_writing : (machine : Architecture) (read : FilesRead) (layout : Said) (units : List CuBoundary) (names : List NameWords) (index sframe : List ℕ) (outcome : SframeOutcome) (steady : Bool) (faults faults_now : ℕ) (written now : Option (List ℕ)) (ran : Ran) → layout_of read.layout.items ≡ Ok layout → AreTablesOf (program_input_of machine read layout) units names index sframe outcome → ((error : DeriveError) → HasCauseIn (program_input_of machine read layout) error → ⊥) → IsWritingOf units names index sframe outcome steady faults faults_now written now ran → IsAnswerFor machine read steady faults faults_now written now ran
 after_writing machine read layout units names index sframe outcome steady faults faults_now written now (Done tables) laid are none (i, s, o, whole) = record {
   text = report_of units names outcome index sframe;
   reported = record {
@@ -57,7 +57,7 @@ after_writing machine read layout units names index sframe outcome steady faults
     laid = laid;
     units = units;
     names = names;
-    tables = tables_named (input_of machine read layout) units names _ _ _ _ _ _ i s o are;
+    tables = tables_named (program_input_of machine read layout) units names _ _ _ _ _ _ i s o are;
     no_cause = none;
     report = report_named units names _ _ _ _ _ _ i s o;
   };
@@ -83,12 +83,12 @@ after_writing machine read layout units names index sframe outcome steady faults
 after_writing machine read layout units names index sframe outcome steady faults faults_now written now (ReadFault place) laid are none never = absurd never
 after_writing machine read layout units names index sframe outcome steady faults faults_now written now (FileTooLong place) laid are none never = absurd never
 
-pub after_refusal : (machine : Architecture) (read : FilesRead) (layout : Said) (error : DeriveError) (steady : Bool) (faults faults_now : ℕ) (written now : Option (List ℕ)) (ran : Ran) → layout_of read.layout.items ≡ Ok layout → (error ≡ errors.NoMemory) ⊎ HasCauseIn (input_of machine read layout) error → (HasTables (input_of machine read layout) → error ≡ errors.NoMemory) → ((other : DeriveError) → HasCauseIn (input_of machine read layout) other → (error ≡ other) ⊎ (error ≡ errors.NoMemory)) → now ≡ written → IsRefusalOf error ran → IsAnswerFor machine read steady faults faults_now written now ran
+pub after_refusal : (machine : Architecture) (read : FilesRead) (layout : Said) (error : DeriveError) (steady : Bool) (faults faults_now : ℕ) (written now : Option (List ℕ)) (ran : Ran) → layout_of read.layout.items ≡ Ok layout → (error ≡ errors.NoMemory) ⊎ HasCauseIn (program_input_of machine read layout) error → (HasTables (program_input_of machine read layout) → error ≡ errors.NoMemory) → ((other : DeriveError) → HasCauseIn (program_input_of machine read layout) other → (error ≡ other) ⊎ (error ≡ errors.NoMemory)) → now ≡ written → IsRefusalOf error ran → IsAnswerFor machine read steady faults faults_now written now ran
 after_refusal machine read layout error steady faults faults_now written now (Refused answered) laid cause complete exact same (is, not_memory) = (
   record {
     layout = layout;
     laid = laid;
-    cause = let P : DeriveError → Type 0 = λ e. HasCauseIn (input_of machine read layout) e in elim cause [ inl memory ↦ absurd (not_memory memory) | inr other ↦ subst P (sym is) other ];
+    cause = let P : DeriveError → Type 0 = λ e. HasCauseIn (program_input_of machine read layout) e in elim cause [ inl memory ↦ absurd (not_memory memory) | inr other ↦ subst P (sym is) other ];
     not_memory = λ e. not_memory (sym is ∙ e);
     only = λ other has. elim (exact other has) [ inl e ↦ sym e ∙ sym is | inr e ↦ absurd (not_memory e) ];
     no_tables = λ has. not_memory (complete has);

@@ -12,7 +12,7 @@ use Rattle.program_text.specs.Layout.{Said, layout_of}
 use Rattle.derive_program.specs.declared.ran.Ran.{Ran}
 use Rattle.derive_program.specs.declared.ran.Ran.TheVariants.{Done, Refused, BadWords, BadLayout, ReadFault, FileTooLong, WriteFault, NoMemory}
 use Rattle.derive_program.specs.Cause.{Reads, Writes, IsRunOf, IsReadable, IsInputFrom, IsGood, IsFaulty, IsBadLayout, IsWrongLayout, HasReport, IsRefused, IsReported, IsDoneOrNoMemory, IfDone, IfRefused}
-use Rattle.derive_program.specs.Input.{Input, IsInputOf, files_of}
+use Rattle.derive_program.specs.ProgramInput.{ProgramInput, IsInputOf, files_of}
 use Rattle.derive_program.specs.Status.{may_write}
 
 -- the cause at the answer
@@ -88,7 +88,7 @@ read_as held words good command r said told =
     ap (λ c. read_of good.files c) (same_ok (command_of words) good.command command good.said said) ∙ at_files held good.files (λ files. read_of files command ≡ r) good.told told
 
 -- the input of the words is one of what was read
-input_from : (held : Contents) (words : List (List ℕ)) (good : IsReadable held words) (input : Input) → IsInputOf held words input → AreInside (length input.buffer) input.objects → IsInputFrom held words good input
+input_from : (held : Contents) (words : List (List ℕ)) (good : IsReadable held words) (input : ProgramInput) → IsInputOf held words input → AreInside (length input.buffer) input.objects → IsInputFrom held words good input
 input_from held words good input read inside =
     let command_is = same_ok (command_of words) read.command good.command read.said good.said in
     let texts_are : files_of input read.text ≡ good.texts = same_ok (read_of good.files good.command) (files_of input read.text) good.texts (read_as held words good read.command _ read.said read.read) good.read in
@@ -149,7 +149,7 @@ layout_only words held line wrong command texts said told =
     told_of held words line wrong command r said told =
         ap (λ c. read_of wrong.files c) (same_ok (command_of words) wrong.command command wrong.said said) ∙ at_files held wrong.files (λ files. read_of files command ≡ r) wrong.told told
 
-wrong_input : (words : List (List ℕ)) (held : Contents) (line : ℕ) (input : Input) → IsWrongLayout held words line → IsInputOf held words input → ⊥
+wrong_input : (words : List (List ℕ)) (held : Contents) (line : ℕ) (input : ProgramInput) → IsWrongLayout held words line → IsInputOf held words input → ⊥
 wrong_input words held line input wrong read =
     not_both (layout_of read.text) input.layout line read.laid (layout_only words held line wrong read.command (files_of input read.text) read.said read.read)
 

@@ -13,17 +13,17 @@ use Rattle.program_text.specs.Command.{Tables, command_of}
 use Rattle.program_text.specs.Layout.{Said, layout_of}
 use Rattle.derive_program.specs.declared.ran.Ran.{Ran}
 use Rattle.derive_program.specs.declared.ran.Ran.TheVariants.{Done, Refused, BadWords, BadLayout, ReadFault, FileTooLong, WriteFault, NoMemory}
-use Rattle.derive_program.specs.Answer.{input_of, IsAnswerFor, HasReportFor}
+use Rattle.derive_program.specs.Answer.{program_input_of, IsAnswerFor, HasReportFor}
 use Rattle.derive_program.specs.Cause.{HasCauseIn, HasReport, Reads, Writes, IsRunOf}
-use Rattle.derive_program.specs.Input.{Input, IsInputOf, derived_from}
+use Rattle.derive_program.specs.ProgramInput.{ProgramInput, IsInputOf, derived_from}
 
-not_span : (input : Input) (error : DeriveError) → HasCauseIn input error → AreInside (length input.buffer) input.objects → (place : ℕ) → error ≢ errors.BadSpan place
+not_span : (input : ProgramInput) (error : DeriveError) → HasCauseIn input error → AreInside (length input.buffer) input.objects → (place : ℕ) → error ≢ errors.BadSpan place
 not_span input error cause inside place is =
     let P : DeriveError → Type 0 = λ e. HasCauseIn input e in
     no_bad_span (derived_from input) place inside (subst P is cause)
 
 -- the input that files are is that of the words
-input_of_words : (held : Contents) (words : List (List ℕ)) (command : Tables) (read : FilesRead) (layout : Said) → command_of words ≡ Ok command → IfSome held (λ files. read_of files command ≡ Ok (texts_read read)) → layout_of read.layout.items ≡ Ok layout → IsInputOf held words (input_of command.machine read layout)
+input_of_words : (held : Contents) (words : List (List ℕ)) (command : Tables) (read : FilesRead) (layout : Said) → command_of words ≡ Ok command → IfSome held (λ files. read_of files command ≡ Ok (texts_read read)) → layout_of read.layout.items ≡ Ok layout → IsInputOf held words (program_input_of command.machine read layout)
 input_of_words held words command read layout said told laid = record {
   command = command;
   said = said;
@@ -35,7 +35,7 @@ input_of_words held words command read layout said told laid = record {
 
 report_of_words : (held : Contents) (words : List (List ℕ)) (command : Tables) (read : FilesRead) (index sframe text : List ℕ) (outcome : _) → command_of words ≡ Ok command → IfSome held (λ files. read_of files command ≡ Ok (texts_read read)) → HasReportFor command.machine read index sframe outcome text → HasReport held words index sframe outcome text
 report_of_words held words command read index sframe text outcome said told reported = record {
-  input = input_of command.machine read reported.layout;
+  input = program_input_of command.machine read reported.layout;
   read = input_of_words held words command read reported.layout said told reported.laid;
   units = reported.units;
   names = reported.names;
@@ -52,11 +52,11 @@ run_of_answer words reads writes command read (Done tables) said told inside rep
 }
 run_of_answer words reads writes command read (Refused error) said told inside (refused, same) = (
   record {
-    input = input_of command.machine read refused.layout;
+    input = program_input_of command.machine read refused.layout;
     read = input_of_words reads.held words command read refused.layout said told refused.laid;
     inside = inside;
     cause = refused.cause;
-    not_span = not_span (input_of command.machine read refused.layout) error refused.cause inside;
+    not_span = not_span (program_input_of command.machine read refused.layout) error refused.cause inside;
     not_memory = refused.not_memory;
     only = refused.only;
     no_tables = refused.no_tables;

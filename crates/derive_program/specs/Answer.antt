@@ -13,21 +13,21 @@ use Rattle.program_text.specs.Report.{report_of}
 use Rattle.derive_program.specs.declared.ran.Ran.{Ran}
 use Rattle.derive_program.specs.declared.ran.Ran.TheVariants.{Done, Refused, BadWords, BadLayout, ReadFault, FileTooLong, WriteFault, NoMemory}
 use Rattle.derive_program.specs.Cause.{HasCauseIn}
-use Rattle.derive_program.specs.Input.{Input, AreTablesOf, HasTables}
+use Rattle.derive_program.specs.ProgramInput.{ProgramInput, AreTablesOf, HasTables}
 
 -- the input that files are, with a layout
-abbrev pub input_of : Architecture → FilesRead → Said → Input
-input_of machine read layout =
+abbrev pub program_input_of : Architecture → FilesRead → Said → ProgramInput
+program_input_of machine read layout =
     record { machine = machine; layout = layout; buffer = read.buffer.items; objects = read.objects.items; sframe = read.sframe.items }
 
 -- an error of the tables, by its cause
-pub record IsRefusedFor (machine : Architecture) (read : FilesRead) (error : DeriveError) : Type 0 where
+pub record IsDeriveRefusal (machine : Architecture) (read : FilesRead) (error : DeriveError) : Type 0 where
   pub layout : Said
   pub laid : layout_of read.layout.items ≡ Ok layout
-  pub cause : HasCauseIn (input_of machine read layout) error
+  pub cause : HasCauseIn (program_input_of machine read layout) error
   pub not_memory : error ≢ errors.NoMemory
-  pub only : (other : DeriveError) → HasCauseIn (input_of machine read layout) other → other ≡ error
-  pub no_tables : HasTables (input_of machine read layout) → ⊥
+  pub only : (other : DeriveError) → HasCauseIn (program_input_of machine read layout) other → other ≡ error
+  pub no_tables : HasTables (program_input_of machine read layout) → ⊥
 
 -- an error of the tables is answered as it is, but for want of memory
 abbrev pub IsRefusalOf : DeriveError → Ran → Type 0
@@ -46,8 +46,8 @@ pub record HasReportFor (machine : Architecture) (read : FilesRead) (index sfram
   pub laid : layout_of read.layout.items ≡ Ok layout
   pub units : List CuBoundary
   pub names : List NameWords
-  pub tables : AreTablesOf (input_of machine read layout) units names index sframe outcome
-  pub no_cause : (error : DeriveError) → HasCauseIn (input_of machine read layout) error → ⊥
+  pub tables : AreTablesOf (program_input_of machine read layout) units names index sframe outcome
+  pub no_cause : (error : DeriveError) → HasCauseIn (program_input_of machine read layout) error → ⊥
   pub report : text ≡ report_of units names outcome index sframe
 
 -- the report was written whole
@@ -69,7 +69,7 @@ pub record IsCutOffFor (machine : Architecture) (read : FilesRead) (written now 
 -- an answer for the files that were read, and what was written before it
 abbrev pub IsAnswerFor : Architecture → FilesRead → Bool → ℕ → ℕ → Option (List ℕ) → Option (List ℕ) → Ran → Type 0
 IsAnswerFor machine read steady faults faults_now written now (Done tables) = IsReportedFor machine read tables.index.items tables.sframe.items tables.outcome written now
-IsAnswerFor machine read steady faults faults_now written now (Refused error) = IsRefusedFor machine read error × (now ≡ written)
+IsAnswerFor machine read steady faults faults_now written now (Refused error) = IsDeriveRefusal machine read error × (now ≡ written)
 IsAnswerFor machine read steady faults faults_now written now (BadLayout line) = (layout_of read.layout.items ≡ Err line) × (now ≡ written)
 IsAnswerFor machine read steady faults faults_now written now WriteFault = Rose faults faults_now × (IsTrue steady → ⊥) × IsCutOffFor machine read written now
 IsAnswerFor machine read steady faults faults_now written now NoMemory = now ≡ written

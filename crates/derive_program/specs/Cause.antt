@@ -16,7 +16,7 @@ use Rattle.program_files.specs.declared.error.ReadError.TheVariants.{Unread, Too
 use Rattle.program_files.specs.Reading.{Texts, file_limit, read_of}
 use Rattle.derive_program.specs.declared.ran.Ran.{Ran}
 use Rattle.derive_program.specs.declared.ran.Ran.TheVariants.{Done, Refused, BadWords, BadLayout, ReadFault, FileTooLong, WriteFault, NoMemory}
-use Rattle.derive_program.specs.Input.{files_of, Input, IsInputOf, derived_from, AreTablesOf, HasTables}
+use Rattle.derive_program.specs.ProgramInput.{files_of, ProgramInput, IsInputOf, derived_from, AreTablesOf, HasTables}
 
 -- a file that a word of the command names was not read: where the files are steady, it is the first that is not held, and each before it was read
 pub record IsReadFault (held : Contents) (steady : Bool) (words : List (List ℕ)) (place faults now : ℕ) : Type 0 where
@@ -27,7 +27,7 @@ pub record IsReadFault (held : Contents) (steady : Bool) (words : List (List ℕ
   pub missing : IsTrue steady → IfSome held (λ files. read_of files command ≡ Err (Unread place))
 
 -- a file that a word of the command names is too long: where the files are told, it is longer than the limit left for it, and each before it was read
-pub record IsTooLong (held : Contents) (words : List (List ℕ)) (place taken now : ℕ) : Type 0 where
+pub record IsFileTooLong (held : Contents) (words : List (List ℕ)) (place taken now : ℕ) : Type 0 where
   pub command : Tables
   pub said : command_of words ≡ Ok command
   pub names : NamesFile command place
@@ -43,12 +43,12 @@ pub record IsBadLayout (held : Contents) (words : List (List ℕ)) (line : ℕ) 
   pub wrong : layout_of texts.layout ≡ Err line
 
 -- the cause of an error for an input
-abbrev pub HasCauseIn : Input → DeriveError → Type 0
+abbrev pub HasCauseIn : ProgramInput → DeriveError → Type 0
 HasCauseIn input error = HasCause (derived_from input) error
 
 -- the input that was read has no tables, by the cause of this error
 pub record IsRefused (held : Contents) (words : List (List ℕ)) (error : DeriveError) : Type 0 where
-  pub input : Input
+  pub input : ProgramInput
   pub read : IsInputOf held words input
   pub inside : AreInside (length input.buffer) input.objects
   pub cause : HasCauseIn input error
@@ -59,7 +59,7 @@ pub record IsRefused (held : Contents) (words : List (List ℕ)) (error : Derive
 
 -- the input that was read has tables, and this is the report of them
 pub record HasReport (held : Contents) (words : List (List ℕ)) (index sframe : List ℕ) (outcome : SframeOutcome) (text : List ℕ) : Type 0 where
-  pub input : Input
+  pub input : ProgramInput
   pub read : IsInputOf held words input
   pub units : List CuBoundary
   pub names : List NameWords
@@ -95,7 +95,7 @@ pub record IsReadable (held : Contents) (words : List (List ℕ)) : Type 0 where
   pub laid : layout_of texts.layout ≡ Ok layout
 
 -- an input of what was read, however its objects stand in a buffer
-pub record IsInputFrom (held : Contents) (words : List (List ℕ)) (readable : IsReadable held words) (input : Input) : Type 0 where
+pub record IsInputFrom (held : Contents) (words : List (List ℕ)) (readable : IsReadable held words) (input : ProgramInput) : Type 0 where
   pub machine : input.machine ≡ readable.command.machine
   pub layout : input.layout ≡ readable.layout
   pub files : files_of input readable.texts.layout ≡ readable.texts
@@ -104,12 +104,12 @@ pub record IsInputFrom (held : Contents) (words : List (List ℕ)) (readable : I
 -- What is read has tables.
 pub record IsGood (held : Contents) (words : List (List ℕ)) : Type 0 where
   pub readable : IsReadable held words
-  pub valid : (input : Input) → IsInputFrom held words readable input → HasTables input
+  pub valid : (input : ProgramInput) → IsInputFrom held words readable input → HasTables input
 
 -- What is read has no tables, by the cause of this error.
 pub record IsFaulty (held : Contents) (words : List (List ℕ)) (error : DeriveError) : Type 0 where
   pub readable : IsReadable held words
-  pub cause : (input : Input) → IsInputFrom held words readable input → HasCauseIn input error
+  pub cause : (input : ProgramInput) → IsInputFrom held words readable input → HasCauseIn input error
 
 -- Good words, files that are told, held and within the limits, and a layout whose first wrong line is this one.
 pub record IsWrongLayout (held : Contents) (words : List (List ℕ)) (line : ℕ) : Type 0 where
@@ -178,6 +178,6 @@ IsRunOf words reads writes (Refused error) = IsRefused reads.held words error ×
 IsRunOf words reads writes (BadWords place) = (command_of words ≡ Err place) × (writes.now ≡ writes.written)
 IsRunOf words reads writes (BadLayout line) = IsBadLayout reads.held words line × (writes.now ≡ writes.written)
 IsRunOf words reads writes (ReadFault place) = IsReadFault reads.held reads.steady words place reads.faults reads.faults_now × (writes.now ≡ writes.written)
-IsRunOf words reads writes (FileTooLong place) = IsTooLong reads.held words place reads.taken reads.taken_now × (writes.now ≡ writes.written)
+IsRunOf words reads writes (FileTooLong place) = IsFileTooLong reads.held words place reads.taken reads.taken_now × (writes.now ≡ writes.written)
 IsRunOf words reads writes WriteFault = Rose writes.faults writes.faults_now × (IsTrue writes.steady → ⊥) × IsCutOff reads.held words writes.written writes.now
 IsRunOf words reads writes NoMemory = ((command : Tables) × (command_of words ≡ Ok command)) × (writes.now ≡ writes.written)

@@ -4,7 +4,7 @@ ghost use Rattle.derivation.specs.declared.error.DeriveError.{DeriveError as Der
 ghost use Rattle.program_io.specs.Counting.{Rose};
 ghost use Rattle.program_files.specs.Reading.{file_limit};
 ghost use Rattle.program_text.specs.Command.{object_limit, words_of, command_of};
-ghost use Rattle.derive_program.specs.Cause.{IsRunOf, IsReadFault, IsTooLong, IsBadLayout, IsRefused, IsFaulty, IsReported, IsCutOff, IsGood, IsWrongLayout, IsDoneOrNoMemory, IfDone, IfRefused};
+ghost use Rattle.derive_program.specs.Cause.{IsRunOf, IsReadFault, IsFileTooLong, IsBadLayout, IsRefused, IsFaulty, IsReported, IsCutOff, IsGood, IsWrongLayout, IsDoneOrNoMemory, IfDone, IfRefused};
 ghost use Rattle.derive_program.specs.Status.{may_write};
 ghost use Rattle.derive_program.specs.Answer.{IsAnswerFor, IsRefusalOf};
 ghost use Rattle.derive_program.specs.Writing.{IsWritingOf};
@@ -119,7 +119,7 @@ pub fn run<F: Files, S: Sink>(alloc: Global, words: &[String], files: &mut F, ou
 
     ensures words { (place : ℕ) → (result ≡ Ran.BadWords place) ↔ (command_of (words_of words.now) ≡ Err place) }
     ensures read_fault { (place : ℕ) → result ≡ Ran.ReadFault place → IsReadFault (F.held files.old) (F.steady files.old) (words_of words.now) place (F.faults files.old) (F.faults files.new) }
-    ensures file_too_long { (place : ℕ) → result ≡ Ran.FileTooLong place → IsTooLong (F.held files.old) (words_of words.now) place (F.taken files.old) (F.taken files.new) }
+    ensures file_too_long { (place : ℕ) → result ≡ Ran.FileTooLong place → IsFileTooLong (F.held files.old) (words_of words.now) place (F.taken files.old) (F.taken files.new) }
     ensures layout { (line : ℕ) → result ≡ Ran.BadLayout line → IsBadLayout (F.held files.old) (words_of words.now) line }
     ensures layout_exact { (line : ℕ) → IsWrongLayout (F.held files.old) (words_of words.now) line → ¬ Rose (F.faults files.old) (F.faults files.new) ⊎ IsTrue (F.steady files.old) → (result ≡ Ran.BadLayout line) ⊎ (result ≡ Ran.NoMemory) }
     ensures refused { IfRefused result (λ error. IsRefused (F.held files.old) (words_of words.now) error) }

@@ -80,8 +80,8 @@ pub record Header : Type 0 where
   pub has_addends : Bool
   pub shift : ℕ
 
-abbrev pub header_of : ℕ → Header
-header_of n = record { count = n / 8; has_addends = has_bit n 4; shift = n % 4 }
+abbrev pub crel_header : ℕ → Header
+crel_header n = record { count = n / 8; has_addends = has_bit n 4; shift = n % 4 }
 
 -- what the records give, so many of them, and where one is refused that refusal last
 abbrev pub items : ℕ → Bool → ℕ → Crel → List ℕ → List (Result Crel CrelError)
@@ -113,7 +113,7 @@ listing_of header bytes = record { count = header.count; items = items header.co
 unfoldable pub listing : List ℕ → Result Listing CrelError
 listing bytes = do
   header ← with_crel_error (uleb128 bytes)
-  Ok (listing_of (header_of header.0) header.1)
+  Ok (listing_of (crel_header header.0) header.1)
 
 -- the list that some bytes hold; what stands after its last record does not count
 unfoldable pub crel_list : List ℕ → Result (List Crel) CrelError

@@ -23,9 +23,9 @@ string_front bytes =
     else Err Short
 
 -- what is answered is what is read
-abbrev pub Gives : {X Y E : Type 0} → (X → Y) → Result X E → Result Y E → Type 0
-Gives view (Ok x) read = read ≡ Ok (view x)
-Gives view (Err e) read = read ≡ Err e
+abbrev pub Returns : {X Y E : Type 0} → (X → Y) → Result X E → Result Y E → Type 0
+Returns view (Ok x) read = read ≡ Ok (view x)
+Returns view (Err e) read = read ≡ Err e
 
 -- A cursor has some bytes before and some after: it goes on past what is read, and a refusal leaves it.
 abbrev pub Takes : {X Y : Type 0} → (X → Y) → Result X CursorError → List ℕ → List ℕ → Read Y → Type 0

@@ -8,8 +8,8 @@ use Rattle.elf_format.specs.Architecture.{architecture_of}
 use Rattle.elf_format.specs.Bytes.{get}
 use Rattle.elf_format.specs.Class.{Class, class32, class64, class_byte, file_header_size, e_machine, e_shentsize, e_shnum, section_header_size}
 use Rattle.elf_format.specs.Section.{file_header, table_offset, has_first_header, section_count, name_table, sections}
-use Rattle.elf_format.specs.Symbol.{is_good_symbol_table, is_good_index_table}
-use Rattle.elf_format.specs.Version.{is_good_version_section}
+use Rattle.elf_format.specs.Symbol.{is_well_formed_symbol_table, is_well_formed_index_table}
+use Rattle.elf_format.specs.Version.{is_well_formed_version_section}
 
 -- the four bytes 0x7f E L F, the class, little endian, and version 1
 abbrev pub identification : Class → List ℕ
@@ -38,11 +38,11 @@ has_section_names c file = section_count c file == 0 || is_some (name_table c fi
 -- each section that holds symbols, or the section indexes of symbols, is as it should be
 unfoldable pub has_symbols : Class → Bool → List ℕ → Bool
 has_symbols c is_dynamic file =
-    list_all (λ header. is_good_symbol_table c is_dynamic file header && is_good_index_table c is_dynamic file header) (sections c file)
+    list_all (λ header. is_well_formed_symbol_table c is_dynamic file header && is_well_formed_index_table c is_dynamic file header) (sections c file)
 
 -- each section that holds versions is as it should be
 unfoldable pub has_versions : Class → List ℕ → Bool
-has_versions c file = list_all (is_good_version_section c file) (sections c file)
+has_versions c file = list_all (is_well_formed_version_section c file) (sections c file)
 
 -- the first rule that a file of the class breaks
 unfoldable pub fault : Class → Bool → List ℕ → Option ElfError

@@ -16,5 +16,5 @@ abbrev pub AreInside : ℕ → List Span → Type 0
 AreInside n spans = All (IsInside n) spans
 
 -- the bytes of a span
-abbrev pub bytes_of : List ℕ → Span → List ℕ
-bytes_of bytes span = slice_range bytes span.start span.stop
+abbrev pub span_bytes : List ℕ → Span → List ℕ
+span_bytes bytes span = slice_range bytes span.start span.stop

@@ -5,7 +5,7 @@ ghost use Rattle.elf_format.specs.Class.{class32, class64};
 ghost use Rattle.elf_format.specs.Section.{section_count, section_of_name};
 ghost use Rattle.elf_format.specs.declared.error.ElfError.TheVariants.{Header, Machine, SectionTable, SymbolTable, VersionTable};
 ghost use Rattle.elf_format.specs.Fault.{fault, any_fault};
-ghost use Rattle.elf_format.specs.Symbol.{symbols, section_of_symbol, in_section, missing, nowhere};
+ghost use Rattle.elf_format.specs.Symbol.{symbols, section_of_symbol, in_section, missing, no_section};
 ghost use Rattle.elf_format.specs.Example.{small_object, small_object32, object_with_symbols, symbol_in};
 
 /// An object of class 64 with debugging information, a names section, code and section names.
@@ -34,7 +34,7 @@ pub fn symbols_and_versions_are_found()
     ensures fault { fault class64 false (object_with_symbols 2 6) ≡ None }
     ensures count { length (symbols class64 false (object_with_symbols 2 6)) ≡ 3 }
     ensures of_section { section_of_symbol class64 false (object_with_symbols 2 6) (symbol_in 1) 1 ≡ in_section 1 }
-    ensures absolute { section_of_symbol class64 false (object_with_symbols 2 6) (symbol_in 0xfff1) 1 ≡ nowhere }
+    ensures absolute { section_of_symbol class64 false (object_with_symbols 2 6) (symbol_in 0xfff1) 1 ≡ no_section }
     ensures no_index { section_of_symbol class64 false (object_with_symbols 2 6) (symbol_in 0xffff) 2 ≡ missing }
     ensures no_strings { fault class64 false (object_with_symbols 3 6) ≡ Some SymbolTable }
     ensures half_version { fault class64 false (object_with_symbols 2 5) ≡ Some VersionTable }

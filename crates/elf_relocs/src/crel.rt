@@ -3,7 +3,7 @@
 //! count. Contracts see the decoder as its count and the items that it has still to give.
 
 ghost use Rattle.std.specs.Prelude.{◌≡◌};
-ghost use Rattle.elf_format.specs.Cursor.{Gives};
+ghost use Rattle.elf_format.specs.Cursor.{Returns};
 ghost use Rattle.elf_format.specs.Crel.{listing};
 
 use crate::record::{read_record, shift_offset};
@@ -39,7 +39,7 @@ impl<'a> CrelIterator<'a> {
     /// the bytes end first. The records are read by `next`.
     #[tactic(auto, unfolding(elf_format::specs::Crel::listing))]
     pub fn parse(bytes: &'a [u8]) -> Result<CrelIterator<'a>, CrelError>
-        ensures { Gives (λ x. x) result (listing bytes.now) }
+        ensures { Returns (λ x. x) result (listing bytes.now) }
     {
         let mut cursor = ByteCursor::new(bytes);
         let header = cursor.read_uleb128()?;

@@ -2,7 +2,7 @@
 //! offset's change above its flags, then only those changes that the flags name. Sums wrap.
 
 ghost use Rattle.std.specs.Prelude.{◌≡◌, ◌≤◌, ◌<◌, length, ◌&&◌};
-ghost use Rattle.elf_format.specs.Cursor.{Gives};
+ghost use Rattle.elf_format.specs.Cursor.{Returns};
 ghost use Rattle.elf_format.specs.Crel.{has_bit, change, offset_rest, add_32, add_64, add_offset, record_front, shifted, flags_end};
 
 use elf_format::{Crel, CrelError};
@@ -11,7 +11,7 @@ use elf_words::ByteCursor;
 /// A change that stands at the front where a bit says so, and the bytes after it.
 #[tactic(auto, unfolding(elf_format::specs::Crel::change))]
 fn read_change(is_there: bool, bytes: &[u8]) -> Result<(i64, &[u8]), CrelError>
-    ensures { Gives (λ x. (x.0, x.1.now)) result (change is_there bytes.now) }
+    ensures { Returns (λ x. (x.0, x.1.now)) result (change is_there bytes.now) }
 {
     if !is_there {
         return Ok((0, bytes));
@@ -24,7 +24,7 @@ fn read_change(is_there: bool, bytes: &[u8]) -> Result<(i64, &[u8]), CrelError>
 /// The higher part of an offset's change, which stands at the front where the first byte says so.
 #[tactic(auto, unfolding(elf_format::specs::Crel::offset_rest))]
 fn read_offset_rest(byte: u8, bytes: &[u8]) -> Result<(u64, &[u8]), CrelError>
-    ensures { Gives (λ x. (x.0, x.1.now)) result (offset_rest byte bytes.now) }
+    ensures { Returns (λ x. (x.0, x.1.now)) result (offset_rest byte bytes.now) }
 {
     if byte < 128 {
         return Ok((0, bytes));
@@ -81,7 +81,7 @@ pub(crate) fn read_record(
     last: Crel,
     bytes: &[u8],
 ) -> Result<(Crel, &[u8]), CrelError>
-    ensures { Gives (λ x. (x.0, x.1.now)) result (record_front has_addends last bytes.now) }
+    ensures { Returns (λ x. (x.0, x.1.now)) result (record_front has_addends last bytes.now) }
 {
     let [byte, rest @ ..] = bytes else {
         return Err(CrelError::Truncated);

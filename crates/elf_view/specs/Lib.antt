@@ -1,5 +1,5 @@
 pub mod Parsed
-pub mod Place
+pub mod SymbolSection
 pub mod SectionData
 pub mod Relocation
 pub mod RelocFault

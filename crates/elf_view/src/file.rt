@@ -11,9 +11,9 @@ ghost use Rattle.elf_format.specs.Class.{e_machine};
 ghost use Rattle.elf_format.specs.Section.{file_header, sections, section_bytes, section_name, section_of_name, is_name};
 ghost use Rattle.elf_format.specs.Symbol.{symbols, section_of_symbol};
 ghost use Rattle.elf_format.specs.Fault.{fault};
-ghost use Rattle.elf_format.specs.Cursor.{Gives};
+ghost use Rattle.elf_format.specs.Cursor.{Returns};
 ghost use Rattle.elf_relocs.specs.Lists.{count_of, relocations_of};
-ghost use Rattle.elf_view.specs.Place.{IsPlace};
+ghost use Rattle.elf_view.specs.SymbolSection.{IsSymbolSection};
 ghost use Rattle.elf_view.specs.Relocation.{has_targets, relocation_section, entry_of, listed_by};
 ghost use Rattle.elf_view.specs.RelocFault.{IsRelocFault};
 ghost use Rattle.elf_view.specs.SectionData.{plain_bytes, data_fault};
@@ -240,7 +240,7 @@ impl<'a, C: ElfClass> File<'a, C> {
         symbol: &C::Sym,
         index: SymbolIndex,
     ) -> Result<Option<SectionIndex>, ElfError>
-        ensures { IsPlace (section_of_symbol C.class self.now.is_dynamic self.now.bytes (C.Sym.contents symbol.now) index.0) result }
+        ensures { IsSymbolSection (section_of_symbol C.class self.now.is_dynamic self.now.bytes (C.Sym.contents symbol.now) index.0) result }
     {
         let section = match symbol.st_shndx() {
             section @ 0..0xff00 => usize::from(section),
@@ -280,7 +280,7 @@ impl<'a, C: ElfClass> File<'a, C> {
         index: SectionIndex,
         sections: &RelocationSections,
     ) -> Result<RelocationList<'a, C>, ElfError>
-        ensures { Gives (λ l. (count_of l, relocations_of l)) result (listed_by C.class self.now.bytes (entry_of sections.now index.0)) }
+        ensures { Returns (λ l. (count_of l, relocations_of l)) result (listed_by C.class self.now.bytes (entry_of sections.now index.0)) }
     {
         let Some(holder) = sections.get(index.0) else {
             return no_relocations::<C>();

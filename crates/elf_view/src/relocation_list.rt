@@ -1,7 +1,7 @@
 //! The relocations that a section holds (gABI, Relocation; CREL).
 
 ghost use Rattle.std.specs.Prelude.{◌≡◌};
-ghost use Rattle.elf_format.specs.Cursor.{Gives};
+ghost use Rattle.elf_format.specs.Cursor.{Returns};
 ghost use Rattle.elf_view.specs.Relocation.{listed_rela, listed_crel, listed_none, listed_in};
 ghost use Rattle.elf_format.specs.Rela.{rela_list};
 ghost use Rattle.elf_format.specs.Crel.{listing};
@@ -15,7 +15,7 @@ use elf_words::{ElfClass, Record, SHT_CREL, SHT_RELA, SectionHeaderFields};
 /// A list of records.
 #[tactic(auto, unfolding(elf_format::specs::Rela::rela_list))]
 fn list_of_records<'a, C: ElfClass>(bytes: &'a [u8]) -> Result<RelocationList<'a, C>, ElfError>
-    ensures { Gives (λ l. (count_of l, relocations_of l)) result (listed_rela (rela_list C.class bytes.now)) }
+    ensures { Returns (λ l. (count_of l, relocations_of l)) result (listed_rela (rela_list C.class bytes.now)) }
 {
     match RelaView::new(bytes) {
         Some(view) => Ok(RelocationList::Rela(view)),
@@ -25,7 +25,7 @@ fn list_of_records<'a, C: ElfClass>(bytes: &'a [u8]) -> Result<RelocationList<'a
 
 /// A list in CREL.
 fn list_in_crel<'a, C: ElfClass>(bytes: &'a [u8]) -> Result<RelocationList<'a, C>, ElfError>
-    ensures { Gives (λ l. (count_of l, relocations_of l)) result (listed_crel (listing bytes.now)) }
+    ensures { Returns (λ l. (count_of l, relocations_of l)) result (listed_crel (listing bytes.now)) }
 {
     match CrelIterator::parse(bytes) {
         Ok(list) => Ok(RelocationList::Crel(list)),
@@ -35,7 +35,7 @@ fn list_in_crel<'a, C: ElfClass>(bytes: &'a [u8]) -> Result<RelocationList<'a, C
 
 /// No relocations.
 pub fn no_relocations<'a, C: ElfClass>() -> Result<RelocationList<'a, C>, ElfError>
-    ensures { Gives (λ l. (count_of l, relocations_of l)) result listed_none }
+    ensures { Returns (λ l. (count_of l, relocations_of l)) result listed_none }
 {
     list_of_records(&[])
 }
@@ -46,7 +46,7 @@ pub fn list_of_section<'a, C: ElfClass>(
     bytes: &'a [u8],
     header: &C::SectionHeader,
 ) -> Result<RelocationList<'a, C>, ElfError>
-    ensures { Gives (λ l. (count_of l, relocations_of l)) result (listed_in C.class bytes.now (C.SectionHeader.contents header.now)) }
+    ensures { Returns (λ l. (count_of l, relocations_of l)) result (listed_in C.class bytes.now (C.SectionHeader.contents header.now)) }
 {
     let kind = header.sh_type();
     if kind != SHT_RELA && kind != SHT_CREL {

@@ -2,7 +2,7 @@
 
 ghost use Rattle.std.specs.Prelude.{◌≡◌, ◌<◌, slice_get};
 ghost use Rattle.elf_format.specs.Section.{sections, section_bytes};
-ghost use Rattle.elf_format.specs.Symbol.{holds_whole, links_to_strings, is_good_symbol_table, is_good_index_table, has_type};
+ghost use Rattle.elf_format.specs.Symbol.{holds_whole, links_to_strings, is_well_formed_symbol_table, is_well_formed_index_table, has_type};
 ghost use Rattle.elf_format.specs.Fault.{has_symbols};
 
 use crate::index_entry::IndexEntry;
@@ -57,7 +57,7 @@ fn is_sound_symbol_table<'a, C: ElfClass>(
     header: &C::SectionHeader,
 ) -> bool
     requires { headers.now ≡ sections C.class bytes.now }
-    ensures { result ≡ is_good_symbol_table C.class is_dynamic bytes.now (C.SectionHeader.contents header.now) }
+    ensures { result ≡ is_well_formed_symbol_table C.class is_dynamic bytes.now (C.SectionHeader.contents header.now) }
 {
     header.sh_type() != symbol_table_type(is_dynamic)
         || holds_whole_records(bytes, header, C::Sym::SIZE)
@@ -72,7 +72,7 @@ fn is_sound_index_table<'a, C: ElfClass>(
     header: &C::SectionHeader,
 ) -> bool
     requires { headers.now ≡ sections C.class bytes.now }
-    ensures { result ≡ is_good_index_table C.class is_dynamic bytes.now (C.SectionHeader.contents header.now) }
+    ensures { result ≡ is_well_formed_index_table C.class is_dynamic bytes.now (C.SectionHeader.contents header.now) }
 {
     if header.sh_type() != SHT_SYMTAB_SHNDX {
         return true;

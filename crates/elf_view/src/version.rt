@@ -2,7 +2,7 @@
 
 ghost use Rattle.std.specs.Prelude.{◌≡◌};
 ghost use Rattle.elf_format.specs.Section.{sections};
-ghost use Rattle.elf_format.specs.Version.{is_good_version_section};
+ghost use Rattle.elf_format.specs.Version.{is_well_formed_version_section};
 ghost use Rattle.elf_format.specs.Fault.{has_versions};
 
 use crate::section::bytes_of_section;
@@ -16,7 +16,7 @@ const VERSYM_SIZE: usize = 2;
 
 /// Whether a section, if it holds versions, has its bytes in the file.
 fn is_sound_version_section<H: SectionHeaderFields>(bytes: &[u8], header: &H) -> bool
-    ensures { result ≡ is_good_version_section H.class bytes.now (H.contents header.now) }
+    ensures { result ≡ is_well_formed_version_section H.class bytes.now (H.contents header.now) }
 {
     match header.sh_type() {
         SHT_GNU_VERSYM => holds_whole_records(bytes, header, VERSYM_SIZE),

@@ -3,14 +3,14 @@
 
 ghost use Rattle.std.specs.Prelude.{◌≡◌, ◌+◌, ◌*◌, ◌^◌, ◌<◌, ◌≤◌, ◌++◌, length, Some, None, IfOk, is_ok, if◌then◌else◌};
 ghost use Rattle.elf_format.specs.Leb128.{group_sum, signed_below, is_i64, number_bytes, groups, groups_before, uleb128_form, sleb128_form, magnitude};
-ghost use Rattle.elf_format.specs.Cursor.{Gives};
+ghost use Rattle.elf_format.specs.Cursor.{Returns};
 
 use elf_format::CursorError;
 use std::alloc::AllocError;
 
 /// The bytes of the number at the front, and those after it.
 pub(crate) fn split_number(bytes: &[u8]) -> Result<(&[u8], &[u8]), CursorError>
-    ensures value { Gives (λ x. (x.0.now, x.1.now)) result (number_bytes bytes.now) }
+    ensures value { Returns (λ x. (x.0.now, x.1.now)) result (number_bytes bytes.now) }
     ensures short { IfOk result (λ x. length x.0.now ≤ 10) }
 {
     for (i, byte) in bytes.iter().enumerate() {

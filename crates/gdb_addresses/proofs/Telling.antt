@@ -8,11 +8,11 @@ use Rattle.std.proofs.lemmas.List.{drop_all}
 use Rattle.std.proofs.lemmas.Option.{slice_get_within, get_or_from_slice_get}
 use Rattle.elf_format.specs.declared.crel.Crel.{Crel}
 use Rattle.elf_format.specs.Class.{Class}
-use Rattle.elf_format.specs.Symbol.{Place, nowhere, in_section, missing}
+use Rattle.elf_format.specs.Symbol.{SymbolSection, no_section, in_section, missing}
 use Rattle.elf_format.proofs.SearchLemmas.{or_none, or_later}
 use Rattle.gdb_index_format.specs.declared.unit.CuBoundary.{CuBoundary}
 use Rattle.gdb_index_format.specs.Units.{unit_holding}
-use Rattle.gdb_index_format.specs.Addresses.{symbol_place, is_in, tells, told_unit}
+use Rattle.gdb_index_format.specs.Addresses.{section_of_relocation, is_in, assigns, assigned_unit}
 use Rattle.gdb_addresses.specs.declared.error.MapError.{MapError}
 use Rattle.gdb_addresses.specs.declared.error.MapError.TheVariants.{Elf, NoMemory}
 use Rattle.gdb_addresses.specs.Cause.{IsSymbolCause}
@@ -87,18 +87,18 @@ module _ (c : Class) (d : Bool) (file : List ℕ) (us : List CuBoundary) (rs : L
   told_cause i r map (Elf e) there told cause = (cause.0, told_fault i r map there cause.1 told)
   told_cause i r map NoMemory there told cause = tt
 
--- ---- the first that tells
+-- ---- the first that assigns
 
 chosen : (f : Crel → Option ℕ) (r : Crel) (b : Bool) (o : Option ℕ) (rest : Option Crel) (w : Option ℕ) → f r ≡ o → w ≡ option_and_then f rest → option_or (if b then o else None) w ≡ option_and_then f (if b && is_some o then Some r else rest)
 chosen f r true (Some u) rest w e p = sym e
 chosen f r true None rest w e p = p
 chosen f r false o rest w e p = p
 
-first_told : (us : List CuBoundary) (r : Crel) (place : Place) (q : ℕ) (rest : Option Crel) (w : Option ℕ) → w ≡ option_and_then (λ x. unit_holding us x.offset) rest → option_or (told_by_place us r.offset place q) w ≡ option_and_then (λ x. unit_holding us x.offset) (if is_in q place && is_some (unit_holding us r.offset) then Some r else rest)
-first_told us r nowhere q rest w p = p
+first_told : (us : List CuBoundary) (r : Crel) (place : SymbolSection) (q : ℕ) (rest : Option Crel) (w : Option ℕ) → w ≡ option_and_then (λ x. unit_holding us x.offset) rest → option_or (told_by_place us r.offset place q) w ≡ option_and_then (λ x. unit_holding us x.offset) (if is_in q place && is_some (unit_holding us r.offset) then Some r else rest)
+first_told us r no_section q rest w p = p
 first_told us r (in_section s) q rest w p = chosen (λ (x : Crel). unit_holding us x.offset) r (eqb s q) (unit_holding us r.offset) rest w refl p
 first_told us r missing q rest w p = p
 
-pub told_first : (c : Class) (d : Bool) (file : List ℕ) (us : List CuBoundary) (rs : List Crel) (q : ℕ) → told_in c d file us rs q ≡ told_unit c d file us q (Ok rs)
+pub told_first : (c : Class) (d : Bool) (file : List ℕ) (us : List CuBoundary) (rs : List Crel) (q : ℕ) → told_in c d file us rs q ≡ assigned_unit c d file us q (Ok rs)
 told_first c d file us [] q = refl
-told_first c d file us (r ∷ rs) q = first_told us r (symbol_place c d file r.symbol) q (find (tells c d file us q) rs) (told_in c d file us rs q) (told_first c d file us rs q)
+told_first c d file us (r ∷ rs) q = first_told us r (section_of_relocation c d file r.symbol) q (find (assigns c d file us q) rs) (told_in c d file us rs q) (told_first c d file us rs q)

@@ -4,10 +4,10 @@ use Rattle.std.specs.Option.{option_or}
 use Rattle.elf_format.specs.declared.crel.Crel.{Crel}
 use Rattle.elf_format.specs.declared.error.ElfError.{ElfError}
 use Rattle.elf_format.specs.Class.{Class}
-use Rattle.elf_format.specs.Symbol.{Place, nowhere, in_section, missing}
+use Rattle.elf_format.specs.Symbol.{SymbolSection, no_section, in_section, missing}
 use Rattle.gdb_index_format.specs.declared.unit.CuBoundary.{CuBoundary}
 use Rattle.gdb_index_format.specs.Units.{unit_holding}
-use Rattle.gdb_index_format.specs.Addresses.{symbol_place, is_missing}
+use Rattle.gdb_index_format.specs.Addresses.{section_of_relocation, is_missing}
 
 -- without a list there are no relocations
 abbrev pub as_relocations : Result (Option (List Crel)) ElfError → Result (List Crel) ElfError
@@ -19,14 +19,14 @@ as_relocations (Ok (Some records)) = Ok records
 abbrev pub told_at : List CuBoundary → ℕ → ℕ → ℕ → Option ℕ
 told_at us offset stands section = if stands == section then unit_holding us offset else None
 
-abbrev pub told_by_place : List CuBoundary → ℕ → Place → ℕ → Option ℕ
-told_by_place us offset nowhere section = None
+abbrev pub told_by_place : List CuBoundary → ℕ → SymbolSection → ℕ → Option ℕ
+told_by_place us offset no_section section = None
 told_by_place us offset (in_section stands) section = told_at us offset stands section
 told_by_place us offset missing section = None
 
 -- what a relocation tells of a section
 abbrev pub told_by : Class → Bool → List ℕ → List CuBoundary → Crel → ℕ → Option ℕ
-told_by c is_dynamic file us r section = told_by_place us r.offset (symbol_place c is_dynamic file r.symbol) section
+told_by c is_dynamic file us r section = told_by_place us r.offset (section_of_relocation c is_dynamic file r.symbol) section
 
 -- the first that some relocations tell of it
 abbrev pub told_in : Class → Bool → List ℕ → List CuBoundary → List Crel → ℕ → Option ℕ
@@ -35,4 +35,4 @@ told_in c is_dynamic file us (r ∷ rs) section = option_or (told_by c is_dynami
 
 -- whether the symbol of a relocation, or the section index of it, is missing
 abbrev pub lacks_symbol : Class → Bool → List ℕ → Crel → Bool
-lacks_symbol c is_dynamic file r = is_missing (symbol_place c is_dynamic file r.symbol)
+lacks_symbol c is_dynamic file r = is_missing (section_of_relocation c is_dynamic file r.symbol)

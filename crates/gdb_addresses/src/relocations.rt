@@ -1,8 +1,8 @@
 //! The relocations of an object's `.debug_info` (gABI, Relocation), and the sections that their symbols stand in.
 
 ghost use Rattle.std.specs.Prelude.{◌≡◌};
-ghost use Rattle.elf_view.specs.Place.{IsPlace};
-ghost use Rattle.gdb_index_format.specs.Addresses.{unit_relocations, records_in, symbol_place};
+ghost use Rattle.elf_view.specs.SymbolSection.{IsSymbolSection};
+ghost use Rattle.gdb_index_format.specs.Addresses.{unit_relocations, records_in, section_of_relocation};
 ghost use Rattle.gdb_addresses.specs.Told.{as_relocations};
 
 use elf_format::{ElfError, SectionIndex, SymbolIndex};
@@ -53,7 +53,7 @@ pub(crate) fn section_of_symbol<C: ElfClass>(
     file: &File<'_, C>,
     symbol: u32,
 ) -> Result<Option<SectionIndex>, ElfError>
-    ensures { IsPlace (symbol_place C.class file.now.is_dynamic file.now.bytes symbol) result }
+    ensures { IsSymbolSection (section_of_relocation C.class file.now.is_dynamic file.now.bytes symbol) result }
 {
     if symbol == 0 {
         return Ok(None);

@@ -12,7 +12,7 @@ use Rattle.gdb_index_format.specs.Hash.{name_hash}
 use Rattle.gdb_index_format.specs.Slots.{slot_of}
 use Rattle.gdb_index_format.specs.declared.name_words.NameWords.{NameWords}
 use Rattle.gdb_index_format.specs.Named.{Named, named, all_named}
-use Rattle.gdb_index.specs.Table.{Slot, free_slot, table_bytes, zero_table, with_slot, IsFree, IsFirstFree, HasRoom, Inserts}
+use Rattle.gdb_index.specs.Table.{Slot, free_slot, table_bytes, zero_table, with_slot, IsFree, IsFirstFree, HasFreeSlot, Inserts}
 use Rattle.gdb_index.specs.Passed.{looks_passed, ArePassed}
 use Rattle.gdb_index.specs.Pool.{vector_len, name_len, vectors_len, names_len, vector_place, name_place}
 use Rattle.gdb_index.specs.Filled.{IsFirstUnused, IsFilledTo, IsFilled, IsFilledTable, slot_for}
@@ -138,7 +138,7 @@ pub is_free_at : (table : List ℕ) (slots : ℕ) (ns : List Named) (n : ℕ) (f
 is_free_at table slots ns n f s below lacks =
     subst (λ t. IsFree t s) (sym f.bytes_are) (free_in_bytes f.held s (omega (arith, below, f.filled.len)) f.fit (f.filled.free s below lacks))
 
-pub has_room : (table : List ℕ) (slots : ℕ) (ns : List Named) (n : ℕ) → FillsTo table slots ns n → n < slots → IsPowerOfTwo slots → HasRoom table slots
+pub has_room : (table : List ℕ) (slots : ℕ) (ns : List Named) (n : ℕ) → FillsTo table slots ns n → n < slots → IsPowerOfTwo slots → HasFreeSlot table slots
 has_room table slots ns n f less power =
     let found = some_absent slots f.filled.places (omega (arith, f.filled.count, less)) in
     record {

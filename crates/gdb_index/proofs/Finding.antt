@@ -10,7 +10,7 @@ use Rattle.elf_format.specs.Bytes.{u32_at, string_at}
 use Rattle.gdb_index_format.specs.Hash.{name_hash}
 use Rattle.gdb_index_format.specs.Version.{header_len}
 use Rattle.gdb_index_format.specs.Slots.{slot_of}
-use Rattle.gdb_index_format.specs.Probe.{Look, Ends, Passes, Probed, probe_from, fault_of, table_at, pool_at, slot_count, vector_at, look_in, look_named, look_at, unless_fault, probe}
+use Rattle.gdb_index_format.specs.Probe.{Look, Ends, Passes, Probed, probe_from, index_fault, table_at, pool_at, slot_count, vector_at, look_in, look_named, look_at, unless_fault, probe}
 use Rattle.gdb_index_format.specs.Named.{Named, AreDistinct}
 use Rattle.gdb_index.specs.Pool.{vector_place, name_place}
 use Rattle.gdb_index.specs.Table.{Slot}
@@ -37,10 +37,10 @@ run f n k answer l passes ends =
       plain : (n : ℕ) → n + 0 ≡ n
       plain n = omega arith
 
-pub probe_is : (b name : List ℕ) → header_len (u32_at b 0) ≤ length b → fault_of b ≡ None → probe b name ≡ probe_from (look_at b name) (slot_count b) 0
+pub probe_is : (b name : List ℕ) → header_len (u32_at b 0) ≤ length b → index_fault b ≡ None → probe b name ≡ probe_from (look_at b name) (slot_count b) 0
 unfolding probe
 probe_is b name header sound =
-    ap (λ x. cond x (record { answer = Ok None; looks = 0 }) (unless_fault (fault_of b) (probe_from (look_at b name) (slot_count b) 0))) (le-ltb _ _ header)
+    ap (λ x. cond x (record { answer = Ok None; looks = 0 }) (unless_fault (index_fault b) (probe_from (look_at b name) (slot_count b) 0))) (le-ltb _ _ header)
     ∙ ap (λ x. unless_fault x (probe_from (look_at b name) (slot_count b) 0)) sound
 
 -- ---- one look

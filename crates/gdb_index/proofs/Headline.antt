@@ -4,7 +4,7 @@ use Rattle.std.specs.List.{filter}
 use Rattle.std.specs.Str.{bytes_eq}
 use Rattle.std.proofs.lemmas.Slice.Eq.{bytes_eq-Decides}
 use Rattle.std.proofs.lemmas.Bool.{cases_Bool, cond-false, false_from_ne_true, both_ways}
-use Rattle.gdb_index_format.specs.Published.{Pair, words_in_order}
+use Rattle.gdb_index_format.specs.Published.{Pair, elements_in_order}
 use Rattle.gdb_index_format.specs.Probe.{probe}
 use Rattle.gdb_index_format.specs.Named.{Named, IsAnswer, AnswersAll, IsNamed, AreNamesOf}
 use Rattle.gdb_index.proofs.Holding.{Answered}
@@ -24,7 +24,7 @@ find_name (n ∷ ns) name =
       nowhere n ns name differ never zero d l e = both_ways (bytes_eq n.name name) differ ((bytes_eq-Decides n.name name).1 e)
       nowhere n ns name differ never (suc i) d l e = never i d (omega arith) e
 
-none_published : (ps : List Pair) (name : List ℕ) → ((k : ℕ) (d : Pair) → k < length ps → (get_or ps k d).name ≡ name → ⊥) → words_in_order name ps ≡ []
+none_published : (ps : List Pair) (name : List ℕ) → ((k : ℕ) (d : Pair) → k < length ps → (get_or ps k d).name ≡ name → ⊥) → elements_in_order name ps ≡ []
 none_published [] name never = refl
 none_published (p ∷ ps) name never =
     ap (map (λ (x : Pair). x.word)) (cond-false (bytes_eq p.name name) (p ∷ filter (λ x. bytes_eq x.name name) ps) (filter (λ x. bytes_eq x.name name) ps)

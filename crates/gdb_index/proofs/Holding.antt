@@ -4,7 +4,7 @@ use Rattle.std.specs.Int.{IsPowerOfTwo}
 use Rattle.elf_format.specs.Bytes.{u32_at, string_at}
 use Rattle.gdb_index_format.specs.Named.{Named}
 use Rattle.gdb_index_format.specs.Version.{header_len}
-use Rattle.gdb_index_format.specs.Probe.{fault_of, table_at, pool_at, slot_count, vector_at, probe}
+use Rattle.gdb_index_format.specs.Probe.{index_fault, table_at, pool_at, slot_count, vector_at, probe}
 use Rattle.gdb_index.specs.Table.{Slot, free_slot}
 use Rattle.gdb_index.specs.Pool.{vector_place, name_place}
 use Rattle.gdb_index.specs.Filled.{IsFilled}
@@ -17,7 +17,7 @@ pub record SlotStands (b : List ℕ) (s : ℕ) (slot : Slot) : Type 0 where
 -- a sound index, in whose table the names stand, and in whose pool their vectors and bytes are
 pub record HoldsNames (b : List ℕ) (ns : List Named) : Type 0 where
   pub header : header_len (u32_at b 0) ≤ length b
-  pub sound : fault_of b ≡ None
+  pub sound : index_fault b ≡ None
   pub power_of_two : IsPowerOfTwo (slot_count b)
   pub room : length ns < slot_count b
   pub table : List Slot

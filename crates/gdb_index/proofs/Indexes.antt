@@ -11,12 +11,12 @@ use Rattle.gdb_index_format.specs.Named.{Named}
 use Rattle.gdb_index_format.specs.Version.{is_known}
 use Rattle.gdb_index_format.specs.Units.{index_units}
 use Rattle.gdb_index_format.specs.Slots.{IsSlotCount}
-use Rattle.gdb_index_format.specs.Probe.{Probed, probe_from, fault_of, table_at, pool_at, slot_count, look_at, probe, vector_at}
-use Rattle.gdb_index.specs.Scan.{Scan, IsSound}
+use Rattle.gdb_index_format.specs.Probe.{Probed, probe_from, index_fault, table_at, pool_at, slot_count, look_at, probe, vector_at}
+use Rattle.gdb_index.specs.Scan.{Scan, IsWellFormedScan}
 use Rattle.gdb_index.specs.Table.{Slot, free_slot, table_bytes}
 use Rattle.gdb_index.specs.Pool.{vectors_len, names_len, vector_place, name_place}
 use Rattle.gdb_index.specs.Filled.{IsFilled}
-use Rattle.gdb_index.specs.Layout.{u32s_bytes, unit_bytes, address_bytes, vector_bytes, name_bytes, AreUnits, addresses_place, table_place, shortcuts_place, pool_place, header, IsIndexOf}
+use Rattle.gdb_index.specs.Layout.{u32s_bytes, unit_bytes, address_bytes, vector_bytes, name_bytes, AreUnits, addresses_place, table_place, shortcuts_place, pool_place, header, IsLayoutOf}
 use Rattle.gdb_index.specs.Answers.{AnswersFor}
 use Rattle.gdb_index.proofs.Standing.{StandsAt, StandsAt-left, StandsAt-right, StandsAt-within, StandsAt-item, u32_at-words, vector_at-stands, string_at-stands}
 use Rattle.gdb_index.proofs.SlotLists.{length-table, slot_stands}
@@ -37,7 +37,7 @@ record Parts (b : List ℕ) (s : Scan) (addresses : List AddressEntry) (slots : 
   vectors : StandsAt b (pool_place 9 (length s.units) (length addresses) slots) (flat_map vector_bytes s.names)
   names : StandsAt b (pool_place 9 (length s.units) (length addresses) slots + vectors_len s.names) (flat_map name_bytes s.names)
 
-parts_of : (b : List ℕ) (s : Scan) (xs : List AddressEntry) (i : IsIndexOf 9 s xs b) → Parts b s xs i.slots i.table
+parts_of : (b : List ℕ) (s : Scan) (xs : List AddressEntry) (i : IsLayoutOf 9 s xs b) → Parts b s xs i.slots i.table
 parts_of b s xs i =
     let h = u32s_bytes (header 9 (length s.units) (length xs) i.slots) in
     let u = flat_map unit_bytes s.units in
@@ -119,10 +119,10 @@ count_of_none (suc n) slots c e = absurd (omega arith)
 record Reads (b : List ℕ) (s : Scan) (xs : List AddressEntry) (slots : ℕ) : Type 0 where
   is : IsHeader b 28 (addresses_place 9 (length s.units)) (addresses_place 9 (length s.units)) (table_place 9 (length s.units) (length xs)) (shortcuts_place 9 (length s.units) (length xs) slots) (pool_place 9 (length s.units) (length xs) slots)
   long : 28 ≤ length b
-  sound : fault_of b ≡ None
+  sound : index_fault b ≡ None
   count : slot_count b ≡ slots
 
-reads : (b : List ℕ) (s : Scan) (xs : List AddressEntry) → length b < 2 ^ 32 → (i : IsIndexOf 9 s xs b) → Reads b s xs i.slots
+reads : (b : List ℕ) (s : Scan) (xs : List AddressEntry) → length b < 2 ^ 32 → (i : IsLayoutOf 9 s xs b) → Reads b s xs i.slots
 unfolding slot_count
 reads b s xs small i =
     let h = header_is b s xs i.slots i.table small (parts_of b s xs i) in
@@ -136,7 +136,7 @@ reads b s xs small i =
 vector_within : (b : List ℕ) (at : ℕ) (ns : List Named) (k : ℕ) (d : Named) → k < length ns → StandsAt b at (flat_map vector_bytes ns) → length (get_or ns k d).words < length b
 vector_within b at ns k d l s = omega (arith, StandsAt-within b _ (vector_bytes (get_or ns k d)) (StandsAt-item vector_bytes b at ns k d l s), length-u32s (length (get_or ns k d).words ∷ (get_or ns k d).words))
 
-holds_names : (b : List ℕ) (s : Scan) (xs : List AddressEntry) → length b < 2 ^ 32 → IsSound s → 0 < length s.names → (i : IsIndexOf 9 s xs b) → HoldsNames b s.names
+holds_names : (b : List ℕ) (s : Scan) (xs : List AddressEntry) → length b < 2 ^ 32 → IsWellFormedScan s → 0 < length s.names → (i : IsLayoutOf 9 s xs b) → HoldsNames b s.names
 unfolding table_at pool_at
 holds_names b s xs small good some i =
     let ns = s.names in
@@ -170,19 +170,19 @@ holds_names b s xs small good some i =
       length-names_within b at ns stands = omega (arith, StandsAt-within b at (flat_map name_bytes ns) stands, length-names ns)
 
 -- with no names there are no slots, and a probe ends at once
-no_slots : (b name : List ℕ) → 28 ≤ length b → fault_of b ≡ None → slot_count b ≡ 0 → probe b name ≡ record { answer = Ok None; looks = 0 }
+no_slots : (b name : List ℕ) → 28 ≤ length b → index_fault b ≡ None → slot_count b ≡ 0 → probe b name ≡ record { answer = Ok None; looks = 0 }
 unfolding probe_from
 no_slots b name long sound none = probe_is b name long sound ∙ ap (λ n. probe_from (look_at b name) n 0) none
 
 nothing_in_none : (b name : List ℕ) (ns : List Named) → probe b name ≡ record { answer = Ok None; looks = 0 } → FindsNothing b ns name
 nothing_in_none b name ns all = record { answer = ap (λ (x : Probed). x.answer) all; looks = subst (λ n. n ≤ length ns + 1) (sym (ap (λ (x : Probed). x.looks) all)) (omega arith) }
 
-ends_at_once : (b : List ℕ) (s : Scan) (xs : List AddressEntry) → length b < 2 ^ 32 → IsIndexOf 9 s xs b → length s.names ≡ 0 → (name : List ℕ) → probe b name ≡ record { answer = Ok None; looks = 0 }
+ends_at_once : (b : List ℕ) (s : Scan) (xs : List AddressEntry) → length b < 2 ^ 32 → IsLayoutOf 9 s xs b → length s.names ≡ 0 → (name : List ℕ) → probe b name ≡ record { answer = Ok None; looks = 0 }
 ends_at_once b s xs small i none name =
     let r = reads b s xs small i in
     no_slots b name r.long r.sound (r.count ∙ count_of_none (length s.names) i.slots i.counted none)
 
-pub answered : (b : List ℕ) (s : Scan) (xs : List AddressEntry) → length b < 2 ^ 32 → IsSound s → IsIndexOf 9 s xs b → Answered b s.names
+pub answered : (b : List ℕ) (s : Scan) (xs : List AddressEntry) → length b < 2 ^ 32 → IsWellFormedScan s → IsLayoutOf 9 s xs b → Answered b s.names
 answered b s xs small good i =
     elim (cases_lt 0 (length s.names)) [
       | inl some ↦ answers_for b s.names (holds_names b s xs small good some i) good.distinct
@@ -192,11 +192,11 @@ answered b s xs small good i =
       }
     ]
 
-pub answers : (b : List ℕ) (s : Scan) (xs : List AddressEntry) → length b < 2 ^ 32 → IsSound s → IsIndexOf 9 s xs b → AnswersFor b s.names
+pub answers : (b : List ℕ) (s : Scan) (xs : List AddressEntry) → length b < 2 ^ 32 → IsWellFormedScan s → IsLayoutOf 9 s xs b → AnswersFor b s.names
 answers b s xs small good i =
     answers_every b s.names (answered b s xs small good i) (λ none name. ap (λ (x : Probed). x.looks) (ends_at_once b s xs small i (ap length none) name))
 
-pub lists_units : (b : List ℕ) (s : Scan) (xs : List AddressEntry) → length b < 2 ^ 32 → AreUnits s.units → IsIndexOf 9 s xs b → index_units b ≡ s.units
+pub lists_units : (b : List ℕ) (s : Scan) (xs : List AddressEntry) → length b < 2 ^ 32 → AreUnits s.units → IsLayoutOf 9 s xs b → index_units b ≡ s.units
 lists_units b s xs small units i =
     let r = reads b s xs small i in
     let known : is_known (u32_at b 0) ≡ true = eq-eqb (u32_at b 0) 9 r.is.version in

@@ -4,7 +4,7 @@ use Rattle.std.specs.Int.{IsPowerOfTwo}
 use Rattle.std.proofs.lemmas.Bool.{cases_lt}
 use Rattle.gdb_index_format.specs.Slots.{slot_of, step_of, with_lowest_bit}
 use Rattle.gdb_index_format.proofs.Probing.{each_slot_once_lem}
-use Rattle.gdb_index.specs.Table.{IsFree, HasRoom}
+use Rattle.gdb_index.specs.Table.{IsFree, HasFreeSlot}
 
 odd : (n : ℕ) → with_lowest_bit n % 2 ≡ 1
 odd n = omega arith
@@ -18,7 +18,7 @@ unfolding slot_of
 probe_once slots hash j k power p q same = (each_slot_once_lem slots hash (step_of slots hash) power (odd _)).once j k p q same
 
 -- while all looks so far met taken slots, there are looks left
-pub looks_left : (table : List ℕ) (slots hash look : ℕ) → HasRoom table slots → ((j : ℕ) → j < look → IsFree table (slot_of slots hash j) → ⊥) → look < slots
+pub looks_left : (table : List ℕ) (slots hash look : ℕ) → HasFreeSlot table slots → ((j : ℕ) → j < look → IsFree table (slot_of slots hash j) → ⊥) → look < slots
 looks_left table slots hash look room taken =
     let found = probe_reaches slots hash room.free.0 room.power_of_two room.free.1 in
     elim (cases_lt found.0 look) [

@@ -9,7 +9,7 @@ use Rattle.gdb_index_format.specs.Slots.{IsSlotCount}
 use Rattle.gdb_index_format.specs.Size.{size_with}
 use Rattle.gdb_index_format.proofs.Sizing.{one_slot_count}
 use Rattle.gdb_index.specs.Scan.{Scan}
-use Rattle.gdb_index.specs.Size.{IsIndexSize, counted, counts_of}
+use Rattle.gdb_index.specs.Size.{IsIndexSize, format_counts, scan_counts}
 use Rattle.gdb_index.specs.Pool.{vectors_len, names_len}
 use Rattle.gdb_index.specs.Layout.{pool_place}
 use Rattle.gdb_index.proofs.Lengths.{vectors_len-words}
@@ -25,10 +25,10 @@ pub record HasRoomFor (s : Scan) (addresses slots size : ℕ) : Type 0 where
   pub parts : pool_place 9 (length s.units) addresses slots + vectors_len s.names + names_len s.names ≤ size
   pub names : 4 * length s.names ≤ size
 
-pub room : (s : Scan) (addresses slots size : ℕ) → IsIndexSize 9 (counts_of s) size → 1 ≤ size → addresses ≤ s.placed → IsSlotCount (length s.names) slots → HasRoomFor s addresses slots size
+pub room : (s : Scan) (addresses slots size : ℕ) → IsIndexSize 9 (scan_counts s) size → 1 ≤ size → addresses ≤ s.placed → IsSlotCount (length s.names) slots → HasRoomFor s addresses slots size
 room s addresses slots size is some few counts =
-    let same : slots ≡ is.slots = one_slot_count (length s.names) slots is.slots counts is.counted in
-    let whole : size ≡ size_with 9 (counted (counts_of s)) is.slots = some_unit (length s.units) (size_with 9 (counted (counts_of s)) is.slots) size is.size_is some in
+    let same : slots ≡ is.slots = one_slot_count (length s.names) slots is.slots counts is.format_counts in
+    let whole : size ≡ size_with 9 (format_counts (scan_counts s)) is.slots = some_unit (length s.units) (size_with 9 (format_counts (scan_counts s)) is.slots) size is.size_is some in
     record {
       parts = omega (arith, same, whole, few, vectors_len-words s.names);
       names = omega (arith, whole);
@@ -39,11 +39,11 @@ pub record HoldsRoom (units : List CuBoundary) (names : List NameWords) (address
   pub counts : IsSlotCount (length (all_named names)) slots
   pub parts : pool_place 9 (length units) addresses slots + vectors_len (all_named names) + names_len (all_named names) ≤ size
 
-pub room_held : (s : Scan) (units : List CuBoundary) (names : List NameWords) (addresses slots size : ℕ) → units ≡ s.units → all_named names ≡ s.names → IsSlotCount (length names) slots → IsIndexSize 9 (counts_of s) size → 1 ≤ size → addresses ≤ s.placed → HoldsRoom units names addresses slots size
+pub room_held : (s : Scan) (units : List CuBoundary) (names : List NameWords) (addresses slots size : ℕ) → units ≡ s.units → all_named names ≡ s.names → IsSlotCount (length names) slots → IsIndexSize 9 (scan_counts s) size → 1 ≤ size → addresses ≤ s.placed → HoldsRoom units names addresses slots size
 room_held s units names addresses slots size us ns counts is some few =
-    let counted : IsSlotCount (length (all_named names)) slots = subst (λ n. IsSlotCount n slots) (sym (length-map names named)) counts in
-    let fits : HasRoomFor s addresses slots size = room s addresses slots size is some few (subst (λ (xs : List Named). IsSlotCount (length xs) slots) ns counted) in
+    let format_counts : IsSlotCount (length (all_named names)) slots = subst (λ n. IsSlotCount n slots) (sym (length-map names named)) counts in
+    let fits : HasRoomFor s addresses slots size = room s addresses slots size is some few (subst (λ (xs : List Named). IsSlotCount (length xs) slots) ns format_counts) in
     record {
-      counts = counted;
+      counts = format_counts;
       parts = omega (arith, fits.parts, ap vectors_len ns, ap names_len ns, ap (λ (xs : List CuBoundary). length xs) us);
     }

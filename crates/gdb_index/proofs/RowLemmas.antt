@@ -8,7 +8,7 @@ use Rattle.std.proofs.lemmas.Slice.Eq.{bytes_eq-Decides}
 use Rattle.std.proofs.lemmas.Bool.{and_parts, ltb-true, leb-true, eqb-true, eq-eqb, both_ways}
 use Rattle.gdb_index_format.specs.declared.unit.CuBoundary.{CuBoundary}
 use Rattle.gdb_index_format.specs.Named.{Named, AreDistinct}
-use Rattle.gdb_index.specs.Scan.{IsIndexName, IsSound}
+use Rattle.gdb_index.specs.Scan.{IsIndexName, IsWellFormedScan}
 use Rattle.gdb_index.specs.Rows.{scan_with, ascends, is_sound_name, differ, are_sound_names}
 
 all_pass : {X : Type 0} (p : X → Bool) (xs : List X) → list_all p xs ≡ true → (i : ℕ) (d : X) → i < length xs → p (get_or xs i d) ≡ true
@@ -55,7 +55,7 @@ distinct (n ∷ ns) h zero (suc j) d p q e = absurd (first_differs n ns j d (and
 distinct (n ∷ ns) h (suc i) zero d p q e = absurd (first_differs n ns i d (and_parts _ _ h).0 (omega (arith, p)) (sym e))
 distinct (n ∷ ns) h (suc i) (suc j) d p q e = ap suc (distinct ns (and_parts _ _ h).1 i j d (omega (arith, p)) (omega (arith, q)) e)
 
-pub sound_scan : (ns : List Named) (placed : ℕ) → are_sound_names ns ≡ true → IsSound (scan_with ns placed)
+pub sound_scan : (ns : List Named) (placed : ℕ) → are_sound_names ns ≡ true → IsWellFormedScan (scan_with ns placed)
 sound_scan ns placed h =
     let parts = and_parts (list_all is_sound_name ns) (differ ns) h in
     record {
@@ -66,8 +66,8 @@ sound_scan ns placed h =
     }
 
 -- the same of units, names and counts that are known to be these
-pub sound_held : (us : List CuBoundary) (ns ms : List Named) (placed : ℕ) (ks : List ℕ) → us ≡ record { offset = 0; length = 12 } ∷ [] → ns ≡ ms → ks ≡ 1 ∷ [] → are_sound_names ms ≡ true → IsSound (record { units = us; names = ns; placed = placed; unit_counts = ks })
+pub sound_held : (us : List CuBoundary) (ns ms : List Named) (placed : ℕ) (ks : List ℕ) → us ≡ record { offset = 0; length = 12 } ∷ [] → ns ≡ ms → ks ≡ 1 ∷ [] → are_sound_names ms ≡ true → IsWellFormedScan (record { units = us; names = ns; placed = placed; unit_counts = ks })
 sound_held us ns ms placed ks units names counts h =
-    subst (λ u. IsSound (record { units = u; names = ns; placed = placed; unit_counts = ks })) (sym units)
-    (subst (λ (n : List Named). IsSound (record { units = record { offset = 0; length = 12 } ∷ []; names = n; placed = placed; unit_counts = ks })) (sym names)
-    (subst (λ k. IsSound (record { units = record { offset = 0; length = 12 } ∷ []; names = ms; placed = placed; unit_counts = k })) (sym counts) (sound_scan ms placed h)))
+    subst (λ u. IsWellFormedScan (record { units = u; names = ns; placed = placed; unit_counts = ks })) (sym units)
+    (subst (λ (n : List Named). IsWellFormedScan (record { units = record { offset = 0; length = 12 } ∷ []; names = n; placed = placed; unit_counts = ks })) (sym names)
+    (subst (λ k. IsWellFormedScan (record { units = record { offset = 0; length = 12 } ∷ []; names = ms; placed = placed; unit_counts = k })) (sym counts) (sound_scan ms placed h)))

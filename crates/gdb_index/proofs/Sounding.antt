@@ -7,7 +7,7 @@ use Rattle.std.proofs.Math.Nat.{pow-suc}
 use Rattle.std.proofs.lemmas.Bool.{and_from, or_right, or_left, eq-eqb, le-leb}
 use Rattle.elf_format.specs.Bytes.{u32_at}
 use Rattle.gdb_index_format.specs.declared.bad_index.BadIndex.TheVariants.{Version, Offsets, Slots}
-use Rattle.gdb_index_format.specs.Probe.{fault_of, are_in_order, is_table, pool_at, slot_count}
+use Rattle.gdb_index_format.specs.Probe.{index_fault, are_in_order, is_table, pool_at, slot_count}
 
 ones_of_one : ones 1 ≡ 1
 unfolding ones
@@ -40,8 +40,8 @@ pub record IsHeader (b : List ℕ) (units types addresses table shortcuts pool :
   pub fifth : shortcuts ≤ pool
   pub ends : pool ≤ length b
 
-pub is_sound : (b : List ℕ) (units types addresses table shortcuts pool slots : ℕ) → IsHeader b units types addresses table shortcuts pool → shortcuts ≡ table + 8 * slots → (slots ≡ 0) ⊎ IsPowerOfTwo slots → fault_of b ≡ None
-unfolding fault_of are_in_order is_table slot_count pool_at
+pub is_sound : (b : List ℕ) (units types addresses table shortcuts pool slots : ℕ) → IsHeader b units types addresses table shortcuts pool → shortcuts ≡ table + 8 * slots → (slots ≡ 0) ⊎ IsPowerOfTwo slots → index_fault b ≡ None
+unfolding index_fault are_in_order is_table slot_count pool_at
 is_sound b units types addresses table shortcuts pool slots h whole power =
     let known : eqb (u32_at b 0) 9 ≡ true = eq-eqb (u32_at b 0) 9 h.version in
     let a = le-leb 28 (u32_at b 4) (omega (arith, h.o1, h.begins)) in

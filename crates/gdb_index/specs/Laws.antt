@@ -6,7 +6,7 @@ use Rattle.gdb_index_format.specs.declared.placement.AddressEntry.{AddressEntry}
 use Rattle.gdb_index_format.specs.Hash.{name_hash}
 use Rattle.gdb_index_format.specs.Slots.{IsSlotCount}
 use Rattle.gdb_index.specs.Scan.{Scan}
-use Rattle.gdb_index.specs.Layout.{IsIndexOf}
+use Rattle.gdb_index.specs.Layout.{IsLayoutOf}
 
 abbrev pub HashIgnoresCase : Type 0
 HashIgnoresCase = (m n : List ℕ) → map to_ascii_lowercase m ≡ map to_ascii_lowercase n → name_hash m ≡ name_hash n
@@ -15,4 +15,4 @@ abbrev pub SlotsExceedNames : Type 0
 SlotsExceedNames = (names slots : ℕ) → 0 < names → IsSlotCount names slots → IsPowerOfTwo slots × (names < slots)
 
 abbrev pub IndexesAreOne : Type 0
-IndexesAreOne = (version : ℕ) (s : Scan) (addresses : List AddressEntry) (b c : List ℕ) → IsIndexOf version s addresses b → IsIndexOf version s addresses c → length b ≡ length c → b ≡ c
+IndexesAreOne = (version : ℕ) (s : Scan) (addresses : List AddressEntry) (b c : List ℕ) → IsLayoutOf version s addresses b → IsLayoutOf version s addresses c → length b ≡ length c → b ≡ c

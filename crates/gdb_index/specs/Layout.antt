@@ -53,7 +53,7 @@ header version units addresses slots =
 -- The bytes are the index of a scan with these addresses: header, units, no type units, addresses, the table
 -- in which each name stands in the first slot of its probe that no earlier name holds, shortcuts of zeros, the
 -- vectors, the names, and zeros to the end.
-pub record IsIndexOf (version : ℕ) (s : Scan) (addresses : List AddressEntry) (b : List ℕ) : Type 0 where
+pub record IsLayoutOf (version : ℕ) (s : Scan) (addresses : List AddressEntry) (b : List ℕ) : Type 0 where
   pub slots : ℕ
   pub counted : IsSlotCount (length s.names) slots
   pub table : List Slot

@@ -12,7 +12,7 @@ seen_look Passes = format.Passes
 
 -- the parts that a probe needs
 pub record ArePartsOf (b : List ℕ) (p : Parts) : Type 0 where
-  pub sound : format.fault_of b ≡ None
+  pub sound : format.index_fault b ≡ None
   pub table : p.table ≡ format.table_at b
   pub slots : p.slots ≡ format.slot_count b
   pub pool : p.pool ≡ format.pool_at b

@@ -28,7 +28,7 @@ pub record IsIndexName (count : ℕ) (n : Named) : Type 0 where
   pub units : All (λ w. unit_number w < count) n.words
 
 -- What holds of every scan result.
-pub record IsSound (s : Scan) : Type 0 where
+pub record IsWellFormedScan (s : Scan) : Type 0 where
   pub units : length s.units ≤ 2 ^ 24
   pub counted : sum s.unit_counts ≡ length s.units
   pub names : All (IsIndexName (length s.units)) s.names

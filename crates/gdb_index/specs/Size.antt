@@ -6,12 +6,12 @@ use Rattle.gdb_index.specs.declared.size.IndexTooLarge.{IndexTooLarge}
 use Rattle.gdb_index.specs.Scan.{Scan, word_count}
 use Rattle.gdb_index.specs.Pool.{names_len}
 
-abbrev pub counted : IndexCounts → Counts
-counted c = record { units = c.units; placed = c.placed; names = c.names; words = c.words; name_bytes = c.name_bytes }
+abbrev pub format_counts : IndexCounts → Counts
+format_counts c = record { units = c.units; placed = c.placed; names = c.names; words = c.words; name_bytes = c.name_bytes }
 
 -- so many bytes has an index of these counts
 abbrev pub IsIndexSize : ℕ → IndexCounts → ℕ → Type 0
-IsIndexSize version c size = IsSize version (counted c) size
+IsIndexSize version c size = IsSize version (format_counts c) size
 
 -- the size, where offsets of four bytes can count it
 pub record IsCountable (version : ℕ) (c : IndexCounts) (n : ℕ) : Type 0 where
@@ -32,5 +32,5 @@ pub record AreSmall (c : IndexCounts) : Type 0 where
   pub name_bytes : c.name_bytes < 2 ^ 120
 
 -- what the size of the index of a scan depends on
-abbrev pub counts_of : Scan → IndexCounts
-counts_of s = record { units = length s.units; placed = s.placed; names = length s.names; words = word_count s.names; name_bytes = names_len s.names }
+abbrev pub scan_counts : Scan → IndexCounts
+scan_counts s = record { units = length s.units; placed = s.placed; names = length s.names; words = word_count s.names; name_bytes = names_len s.names }

@@ -32,7 +32,7 @@ abbrev pub with_slot : List ℕ → ℕ → Slot → List ℕ
 with_slot table s slot = take (8 * s) table ++ slot_bytes slot ++ drop (8 * s + 8) table
 
 -- a table of so many slots that has a free one
-pub record HasRoom (table : List ℕ) (slots : ℕ) : Type 0 where
+pub record HasFreeSlot (table : List ℕ) (slots : ℕ) : Type 0 where
   pub power_of_two : IsPowerOfTwo slots
   pub len : length table ≡ 8 * slots
   pub free : (s : ℕ) × (s < slots) × IsFree table s

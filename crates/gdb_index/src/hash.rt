@@ -2,7 +2,7 @@
 //! manual, "Index Section Format").
 
 ghost use Rattle.std.specs.Prelude.{◌≡◌, ◌+◌, ◌*◌, ◌<◌, ◌^◌};
-ghost use Rattle.gdb_index_format.specs.Hash.{name_hash, word_of};
+ghost use Rattle.gdb_index_format.specs.Hash.{name_hash, element_of};
 ghost use Rattle.gdb_index_format.specs.Slots.{IsSlotCount};
 
 /// The hash of a name. A to Z count as a to z; no other bytes are taken for one another.
@@ -24,7 +24,7 @@ pub fn gdb_hash(name: &[u8]) -> u32
 /// symbol, in bits 28 to 30, and its bit 7, set where the symbol is static, in bit 31.
 pub fn encode_cu_vector_entry(unit: u32, attrs: u8) -> u32
     requires { unit < 2 ^ 24 }
-    ensures { result ≡ word_of unit attrs }
+    ensures { result ≡ element_of unit attrs }
 {
     let attrs = u32::from(attrs);
     unit | ((attrs >> 4) & 7) << 28 | (attrs >> 7) << 31

@@ -5,7 +5,7 @@ ghost use Rattle.std.specs.Prelude.{◌≡◌, ℕ, ◌+◌, ◌*◌, ◌<◌, �
 ghost use Rattle.std.specs.List.{position};
 ghost use Rattle.std.specs.Option.{option_copied};
 ghost use Rattle.elf_format.specs.Bytes.{string_at};
-ghost use Rattle.gdb_index_format.specs.Probe.{fault_of, slot_count, vector_at, look_in, probe};
+ghost use Rattle.gdb_index_format.specs.Probe.{index_fault, slot_count, vector_at, look_in, probe};
 ghost use Rattle.gdb_index.specs.Lookup.{seen_look, ArePartsOf};
 
 use crate::hash::gdb_hash;
@@ -34,10 +34,10 @@ enum Look<'a> {
     Passes,
 }
 
-#[tactic(auto, unfolding(gdb_index_format::specs::Probe::fault_of, gdb_index_format::specs::Probe::are_in_order, gdb_index_format::specs::Probe::is_table, gdb_index_format::specs::Probe::slot_count, gdb_index_format::specs::Probe::pool_at, gdb_index_format::specs::Probe::table_at))]
+#[tactic(auto, unfolding(gdb_index_format::specs::Probe::index_fault, gdb_index_format::specs::Probe::are_in_order, gdb_index_format::specs::Probe::is_table, gdb_index_format::specs::Probe::slot_count, gdb_index_format::specs::Probe::pool_at, gdb_index_format::specs::Probe::table_at))]
 fn parts_of(index: &[u8]) -> Result<Parts, BadIndex>
     requires { 28 ≤ length index.now }
-    ensures { MatchResult result (ArePartsOf index.now) (λ fault. fault_of index.now ≡ Some fault) }
+    ensures { MatchResult result (ArePartsOf index.now) (λ fault. index_fault index.now ≡ Some fault) }
 {
     if read_u32(index, 0) != INDEX_VERSION {
         return Err(BadIndex::Version);

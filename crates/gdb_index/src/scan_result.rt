@@ -4,7 +4,7 @@ ghost use Rattle.std.specs.Prelude.{◌≡◌};
 ghost use Rattle.gdb_index_format.specs.Named.{all_named};
 ghost use Rattle.gdb_index.specs.Scan.{IsSound, word_count};
 ghost use Rattle.gdb_index.specs.Pool.{names_len};
-ghost use Rattle.gdb_index.specs.Size.{counts_of};
+ghost use Rattle.gdb_index.specs.Size.{scan_counts};
 
 use crate::size::IndexCounts;
 use gdb_index_format::{CuBoundary, NameWords};
@@ -22,7 +22,7 @@ pub struct GdbIndexScanResult<'a> {
 
 impl<'a> Model for GdbIndexScanResult<'a> {
     ghost use Rattle.gdb_index_format.specs.Named.{all_named as all_named_of};
-    ghost use Rattle.gdb_index.specs.Scan.{Scan, IsSound as IsSoundScan};
+    ghost use Rattle.gdb_index.specs.Scan.{Scan, IsWellFormedScan as IsSoundScan};
 
     ghost Value = { Scan };
 
@@ -92,7 +92,7 @@ impl<'a> GdbIndexScanResult<'a> {
 
     /// What the size of the index depends on.
     pub fn counts(&self) -> IndexCounts
-        ensures { result ≡ counts_of self.now }
+        ensures { result ≡ scan_counts self.now }
     {
         IndexCounts {
             units: self.units.len() as u128,

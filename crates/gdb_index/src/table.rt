@@ -3,7 +3,7 @@
 ghost use Rattle.std.specs.Prelude.{◌≡◌, ◌↔◌, ℕ, ◌+◌, ◌*◌, ◌<◌, ◌≤◌, ◌^◌, IsTrue, length};
 ghost use Rattle.std.specs.Int.{IsPowerOfTwo};
 ghost use Rattle.gdb_index_format.specs.Slots.{slot_of};
-ghost use Rattle.gdb_index.specs.Table.{IsFree, IsFirstFree, HasRoom, with_slot};
+ghost use Rattle.gdb_index.specs.Table.{IsFree, IsFirstFree, HasFreeSlot, with_slot};
 
 use elf_words::read_u32;
 
@@ -45,7 +45,7 @@ pub(crate) fn insert_name(
     name: u32,
     vector: u32,
 ) -> usize
-    requires room { HasRoom table.old slots }
+    requires room { HasFreeSlot table.old slots }
     requires table { slots < 2 ^ 32 }
     requires passed { (look : ℕ) → look < passed → IsFree table.old (slot_of slots hash look) → ⊥ }
     ensures first { IsFirstFree table.old slots hash result }

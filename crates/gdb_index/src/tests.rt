@@ -1,6 +1,6 @@
 ghost use Rattle.std.specs.Prelude.{◌≡◌, ◌≤◌, ◌<◌, IsTrue, length};
 ghost use Rattle.gdb_index.specs.Rows.{rows_scan, are_sound_rows};
-ghost use Rattle.gdb_index.specs.Size.{AreSmall, counts_of};
+ghost use Rattle.gdb_index.specs.Size.{AreSmall, scan_counts};
 
 use super::*;
 use std::alloc::{AllocError, Global};
@@ -103,7 +103,7 @@ fn index_of(
     addresses: &[AddressEntry],
 ) -> Result<Vec<u8>, AllocError>
     requires sound { IsTrue (are_sound_rows rows.now) }
-    requires small { AreSmall (counts_of (rows_scan rows.now placed)) }
+    requires small { AreSmall (scan_counts (rows_scan rows.now placed)) }
     requires addresses { length addresses.now ≤ placed }
 {
     let mut units = Vec::new(alloc);

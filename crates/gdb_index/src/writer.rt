@@ -9,8 +9,8 @@ ghost use Rattle.gdb_index_format.specs.Units.{index_units};
 ghost use Rattle.gdb_index.specs.Writes.{Extends};
 ghost use Rattle.gdb_index.specs.Filled.{ExtendsByTable};
 ghost use Rattle.gdb_index.specs.Pool.{vectors_len, names_len};
-ghost use Rattle.gdb_index.specs.Layout.{u32s_bytes, header, pool_place, IsIndexOf};
-ghost use Rattle.gdb_index.specs.Size.{IsIndexSize, counts_of};
+ghost use Rattle.gdb_index.specs.Layout.{u32s_bytes, header, pool_place, IsLayoutOf};
+ghost use Rattle.gdb_index.specs.Size.{IsIndexSize, scan_counts};
 ghost use Rattle.gdb_index.specs.Answers.{AnswersFor};
 
 use crate::fill::fill_table;
@@ -70,13 +70,13 @@ fn append_table(buf: &mut [u8], at: usize, slots: usize, names: &[NameWords<'_>]
 /// the scan result's size: at least 1 and below 2^32. There may be at most as many address entries as there
 /// are placed sections; where there are fewer, the bytes that this saves are zeros at the end.
 pub fn write_gdb_index(buf: &mut [u8], scan: &GdbIndexScanResult<'_>, addresses: &[AddressEntry])
-    requires size { IsIndexSize INDEX_VERSION (counts_of scan.now) (length buf.old) }
+    requires size { IsIndexSize INDEX_VERSION (scan_counts scan.now) (length buf.old) }
     requires some { 1 ≤ length buf.old }
     requires small { length buf.old < 2 ^ 32 }
     requires addresses { length addresses.now ≤ scan.now.placed }
 
     // what stands where
-    ensures layout { IsIndexOf INDEX_VERSION scan.now addresses.now buf.new }
+    ensures layout { IsLayoutOf INDEX_VERSION scan.now addresses.now buf.new }
 
     // what a reader finds
     ensures units { index_units buf.new ≡ scan.now.units }

@@ -6,7 +6,7 @@ use Rattle.gdb_index_format.specs.declared.unit.CuBoundary.{CuBoundary}
 use Rattle.gdb_index_format.specs.Units.{IsUnitList}
 use Rattle.gdb_index_format.specs.Names.{NameSet, IsSetList}
 use Rattle.gdb_index_format.specs.Published.{Object}
-use Rattle.gdb_index_format.specs.Objects.{names_sections, info_bytes, AreUnitsIn, AreSetsIn, AreSetsOfSections, AreSetsBeside, IsObjectOf, AreObjectsOf, ObjectsAreOne}
+use Rattle.gdb_index_format.specs.Objects.{pubnames_sections, info_bytes, AreUnitsIn, AreSetsIn, AreSetsOfSections, AreSetsBeside, IsObjectOf, AreObjectsOf, ObjectsAreOne}
 use Rattle.gdb_index_format.proofs.UnitLists.{one_list}
 use Rattle.gdb_index_format.proofs.SetLists.{one_set_list}
 
@@ -26,7 +26,7 @@ one_sets c file (s ∷ more) ss ts (front, rest, is, here, others) (front', rest
 
 one_sets_beside : (c : Class) (file : List ℕ) (us : List CuBoundary) (ss ts : List NameSet) → AreSetsBeside c file us ss → AreSetsBeside c file us ts → ss ≡ ts
 one_sets_beside c file [] ss ts p q = p ∙ sym q
-one_sets_beside c file (u ∷ us) ss ts p q = one_sets c file (names_sections c file) ss ts p q
+one_sets_beside c file (u ∷ us) ss ts p q = one_sets c file (pubnames_sections c file) ss ts p q
 
 same_object : (o p : Object) → o.units ≡ p.units → o.sets ≡ p.sets → o ≡ p
 same_object o p us ss = ap (λ (x : List CuBoundary). record { units = x; sets = o.sets }) us ∙ ap (λ (x : List NameSet). record { units = p.units; sets = x }) ss

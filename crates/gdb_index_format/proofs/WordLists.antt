@@ -5,7 +5,7 @@ use Rattle.std.specs.List.Sorted.{IsPermutation, IsNonDecreasing}
 use Rattle.std.proofs.lemmas.List.Sorted.{sum_by-IsPermutation}
 use Rattle.std.proofs.lemmas.List.Sums.{sum_by-cons}
 use Rattle.std.proofs.lemmas.Bool.Decides.{nat_tests}
-use Rattle.gdb_index_format.specs.Published.{WordsAreOne}
+use Rattle.gdb_index_format.specs.Published.{VectorsAreOne}
 
 one_if : ℕ → ℕ → ℕ
 one_if x y = cond (eqb y x) 1 0
@@ -59,5 +59,5 @@ counts : (xs ys : List ℕ) → IsPermutation xs ys → (x : ℕ) → counted x 
 unfolding counted
 counts xs ys p x = sum_by-IsPermutation (one_if x) xs ys p
 
-pub one_list_of_words : WordsAreOne
+pub one_list_of_words : VectorsAreOne
 one_list_of_words name ps vs ws p q = one_order vs ws p.ascending q.ascending (λ x. counts _ vs p.same x ∙ sym (counts _ ws q.same x))

@@ -9,7 +9,7 @@ use Rattle.elf_format.specs.Bytes.{get}
 use Rattle.elf_format.specs.Class.{Class, sh_type}
 use Rattle.elf_format.specs.Rela.{sht_rela, rela_list}
 use Rattle.elf_format.specs.Section.{sections, section_bytes, section_of_name}
-use Rattle.elf_format.specs.Symbol.{Place, nowhere, in_section, missing, symbols, section_of_symbol}
+use Rattle.elf_format.specs.Symbol.{SymbolSection, no_section, in_section, missing, symbols, section_of_symbol}
 use Rattle.gdb_index_format.specs.declared.unit.CuBoundary.{CuBoundary}
 use Rattle.gdb_index_format.specs.Units.{unit_holding}
 
@@ -36,21 +36,21 @@ unfoldable pub unit_relocations : Class → List ℕ → Result (List Crel) ElfE
 unit_relocations c file = records_in c file (relocation_header c file)
 
 -- where the symbol of a relocation stands: symbol 0 is none
-abbrev pub place_by_symbol : Class → Bool → List ℕ → ℕ → Option (List ℕ) → Place
-place_by_symbol c is_dynamic file index None = missing
-place_by_symbol c is_dynamic file index (Some symbol) = section_of_symbol c is_dynamic file symbol index
+abbrev pub section_by_symbol : Class → Bool → List ℕ → ℕ → Option (List ℕ) → SymbolSection
+section_by_symbol c is_dynamic file index None = missing
+section_by_symbol c is_dynamic file index (Some symbol) = section_of_symbol c is_dynamic file symbol index
 
-abbrev pub symbol_place : Class → Bool → List ℕ → ℕ → Place
-symbol_place c is_dynamic file zero = nowhere
-symbol_place c is_dynamic file (suc index) = place_by_symbol c is_dynamic file (suc index) (slice_get (symbols c is_dynamic file) (suc index))
+abbrev pub section_of_relocation : Class → Bool → List ℕ → ℕ → SymbolSection
+section_of_relocation c is_dynamic file zero = no_section
+section_of_relocation c is_dynamic file (suc index) = section_by_symbol c is_dynamic file (suc index) (slice_get (symbols c is_dynamic file) (suc index))
 
-abbrev pub is_missing : Place → Bool
-is_missing nowhere = false
+abbrev pub is_missing : SymbolSection → Bool
+is_missing no_section = false
 is_missing (in_section index) = false
 is_missing missing = true
 
-abbrev pub is_in : ℕ → Place → Bool
-is_in section nowhere = false
+abbrev pub is_in : ℕ → SymbolSection → Bool
+is_in section no_section = false
 is_in section (in_section index) = index == section
 is_in section missing = false
 
@@ -58,22 +58,22 @@ is_in section missing = false
 -- index of that symbol, is not there
 abbrev pub fault_in : Class → Bool → List ℕ → Result (List Crel) ElfError → Option ElfError
 fault_in c is_dynamic file (Err e) = Some e
-fault_in c is_dynamic file (Ok records) = if list_any (λ r. is_missing (symbol_place c is_dynamic file r.symbol)) records then Some SymbolIndex else None
+fault_in c is_dynamic file (Ok records) = if list_any (λ r. is_missing (section_of_relocation c is_dynamic file r.symbol)) records then Some SymbolIndex else None
 
 unfoldable pub relocation_fault : Class → Bool → List ℕ → Option ElfError
 relocation_fault c is_dynamic file = fault_in c is_dynamic file (unit_relocations c file)
 
--- whether a relocation tells the unit of a section: it lies in a unit, and its symbol stands in the section
-abbrev pub tells : Class → Bool → List ℕ → List CuBoundary → ℕ → Crel → Bool
-tells c is_dynamic file us section r = is_in section (symbol_place c is_dynamic file r.symbol) && is_some (unit_holding us r.offset)
+-- whether a relocation assigns the unit of a section: it lies in a unit, and its symbol stands in the section
+abbrev pub assigns : Class → Bool → List ℕ → List CuBoundary → ℕ → Crel → Bool
+assigns c is_dynamic file us section r = is_in section (section_of_relocation c is_dynamic file r.symbol) && is_some (unit_holding us r.offset)
 
--- the unit of a section, by its place among the units of its object: that of the first relocation that tells it
-abbrev pub told_unit : Class → Bool → List ℕ → List CuBoundary → ℕ → Result (List Crel) ElfError → Option ℕ
-told_unit c is_dynamic file us section (Err e) = None
-told_unit c is_dynamic file us section (Ok records) = option_and_then (λ r. unit_holding us r.offset) (find (tells c is_dynamic file us section) records)
+-- the unit of a section, by its place among the units of its object: that of the first relocation that assigns it
+abbrev pub assigned_unit : Class → Bool → List ℕ → List CuBoundary → ℕ → Result (List Crel) ElfError → Option ℕ
+assigned_unit c is_dynamic file us section (Err e) = None
+assigned_unit c is_dynamic file us section (Ok records) = option_and_then (λ r. unit_holding us r.offset) (find (assigns c is_dynamic file us section) records)
 
 unfoldable pub section_unit : Class → Bool → List ℕ → List CuBoundary → ℕ → Option ℕ
-section_unit c is_dynamic file us section = told_unit c is_dynamic file us section (unit_relocations c file)
+section_unit c is_dynamic file us section = assigned_unit c is_dynamic file us section (unit_relocations c file)
 
 -- where the object has one unit, no relocation is looked at
 abbrev pub unit_of_section : Class → Bool → List ℕ → List CuBoundary → ℕ → ℕ

@@ -12,5 +12,5 @@ abbrev pub name_hash : List ℕ → ℕ
 name_hash name = fold hash_step 0 name
 
 -- the word of a unit's number and a flag byte: bits 4 to 6 of the flag are the kind, bit 7 says static
-abbrev pub word_of : ℕ → ℕ → ℕ
-word_of unit flag = unit + flag / 16 % 8 * 268435456 + flag / 128 % 2 * 2147483648
+abbrev pub element_of : ℕ → ℕ → ℕ
+element_of unit flag = unit + flag / 16 % 8 * 268435456 + flag / 128 % 2 * 2147483648

@@ -3,7 +3,7 @@ use Rattle.std.specs.Prelude.{◌≡◌, ◌≢◌, ℕ, ◌<◌, List, [], leng
 use Rattle.std.specs.List.{All}
 use Rattle.gdb_index_format.specs.declared.bad_index.BadIndex.{BadIndex}
 use Rattle.gdb_index_format.specs.declared.name_words.NameWords.{NameWords}
-use Rattle.gdb_index_format.specs.Published.{Pair, words_in_order, IsWordsOf, first_names}
+use Rattle.gdb_index_format.specs.Published.{Pair, elements_in_order, IsVectorOf, first_names}
 use Rattle.gdb_index_format.specs.Probe.{probe}
 
 -- a name with its words
@@ -27,7 +27,7 @@ IsNamed ns name i = (i < length ns) × ((d : Named) → (slice_index_or ns i d).
 
 -- these are the published names, each with its words
 pub record AreNamesOf (ps : List Pair) (ns : List Named) : Type 0 where
-  pub words : All (λ n. (n.words ≢ []) × IsWordsOf n.name ps n.words) ns
+  pub words : All (λ n. (n.words ≢ []) × IsVectorOf n.name ps n.words) ns
   pub all : All (λ p. (i : ℕ) × IsNamed ns p.name i) ps
 
 -- the published names, each once and in the order of first publication, with their words in ascending order
@@ -38,8 +38,8 @@ pub record ListsPublished (ps : List Pair) (ns : List Named) : Type 0 where
 
 -- the answer for a name: its words, ascending, where it is published; else that it is absent; never a fault
 abbrev pub IsAnswer : List Pair → List ℕ → Result (Option (List ℕ)) BadIndex → Type 0
-IsAnswer ps name (Ok (Some words)) = (words ≢ []) × IsWordsOf name ps words
-IsAnswer ps name (Ok None) = words_in_order name ps ≡ []
+IsAnswer ps name (Ok (Some words)) = (words ≢ []) × IsVectorOf name ps words
+IsAnswer ps name (Ok None) = elements_in_order name ps ≡ []
 IsAnswer ps name (Err fault) = ⊥
 
 -- for every byte string

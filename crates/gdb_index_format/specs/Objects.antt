@@ -33,13 +33,13 @@ abbrev pub IsUnitsOf : Class → List ℕ → List CuBoundary → Type 0
 IsUnitsOf c file us = AreUnitsIn (info_bytes c file) us
 
 -- whether a section holds sets of names
-abbrev pub is_names_section : Class → List ℕ → List ℕ → Bool
-is_names_section c file header =
+abbrev pub is_pubnames_section : Class → List ℕ → List ℕ → Bool
+is_pubnames_section c file header =
     is_name (codes ".debug_gnu_pubnames") (section_name c file header) || is_name (codes ".debug_gnu_pubtypes") (section_name c file header)
 
 -- the names sections in section order, each by its index and its header
-abbrev pub names_sections : Class → List ℕ → List (ℕ × List ℕ)
-names_sections c file = filter (λ s. is_names_section c file s.1) (enumerate_from 0 (sections c file))
+abbrev pub pubnames_sections : Class → List ℕ → List (ℕ × List ℕ)
+pubnames_sections c file = filter (λ s. is_pubnames_section c file s.1) (enumerate_from 0 (sections c file))
 
 -- Bytes that are there, and a list of these sets.
 pub record AreSetsIn (held : Option (List ℕ)) (ss : List NameSet) : Type 0 where
@@ -55,7 +55,7 @@ AreSetsOfSections c file (s ∷ more) ss =
 
 -- the sets of all names sections of an object
 abbrev pub IsSetsOf : Class → List ℕ → List NameSet → Type 0
-IsSetsOf c file ss = AreSetsOfSections c file (names_sections c file) ss
+IsSetsOf c file ss = AreSetsOfSections c file (pubnames_sections c file) ss
 
 -- the sets that count: where there is no unit, no names section is read
 abbrev pub AreSetsBeside : Class → List ℕ → List CuBoundary → List NameSet → Type 0
@@ -85,7 +85,7 @@ is_index index (Some found) = index == found
 
 -- whether a section's bytes are read: the first `.debug_info`, and the names sections
 abbrev pub is_read : Class → List ℕ → ℕ × List ℕ → Bool
-is_read c file s = is_index s.0 (info_section c file) || is_names_section c file s.1
+is_read c file s = is_index s.0 (info_section c file) || is_pubnames_section c file s.1
 
 -- the lowest section of those that are read whose bytes are compressed
 abbrev pub first_compressed : Class → List ℕ → Option ℕ

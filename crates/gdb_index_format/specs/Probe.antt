@@ -30,8 +30,8 @@ unfoldable pub is_table : List ℕ → Bool
 is_table b = ((u32_at b 20 - u32_at b 16) % 8 == 0) && ((slot_count b == 0) || is_power_of_two (slot_count b))
 
 -- what is wrong with the index as a whole, whatever the name
-unfoldable pub fault_of : List ℕ → Option BadIndex
-fault_of b =
+unfoldable pub index_fault : List ℕ → Option BadIndex
+index_fault b =
     if not (is_known (u32_at b 0)) then Some Version
     else (if not (are_in_order b) then Some Offsets
     else (if not (is_table b) then Some Slots else None))
@@ -84,4 +84,4 @@ unless_fault None rest = rest
 unfoldable pub probe : List ℕ → List ℕ → Probed
 probe b name =
     if nat_lt (length b) (header_len (u32_at b 0)) then record { answer = Ok None; looks = 0 }
-    else unless_fault (fault_of b) (probe_from (look_at b name) (slot_count b) 0)
+    else unless_fault (index_fault b) (probe_from (look_at b name) (slot_count b) 0)

@@ -5,7 +5,7 @@ use Rattle.std.specs.List.{position, flat_map, filter}
 use Rattle.std.specs.List.Sorted.{IsPermutation, IsNonDecreasing}
 use Rattle.std.specs.Str.{bytes_eq}
 use Rattle.gdb_index_format.specs.declared.unit.CuBoundary.{CuBoundary}
-use Rattle.gdb_index_format.specs.Hash.{word_of}
+use Rattle.gdb_index_format.specs.Hash.{element_of}
 use Rattle.gdb_index_format.specs.Units.{total_length}
 use Rattle.gdb_index_format.specs.Names.{Entry, NameSet}
 
@@ -15,9 +15,9 @@ pub record Object : Type 0 where
   pub sets : List NameSet
 
 -- units of these lengths, each where those before it end, from a place on
-abbrev pub one_behind_another : ℕ → List CuBoundary → List CuBoundary
-one_behind_another at [] = []
-one_behind_another at (u ∷ us) = record { offset = at; length = u.length } ∷ one_behind_another (at + u.length) us
+abbrev pub end_to_end : ℕ → List CuBoundary → List CuBoundary
+end_to_end at [] = []
+end_to_end at (u ∷ us) = record { offset = at; length = u.length } ∷ end_to_end (at + u.length) us
 
 -- the units of all objects in input order, each with its offset in its own object
 abbrev pub units_in_objects : List Object → List CuBoundary
@@ -25,7 +25,7 @@ units_in_objects os = flat_map (λ o. o.units) os
 
 -- the units of all objects as an index lists them: each begins where all units before it, of whatever object, end
 abbrev pub units_of_all : List Object → List CuBoundary
-units_of_all os = one_behind_another 0 (units_in_objects os)
+units_of_all os = end_to_end 0 (units_in_objects os)
 
 -- the units of all objects begin at running sums of their lengths
 pub record UnitsOfAllRun : Type 0 where
@@ -39,7 +39,7 @@ pub record Pair : Type 0 where
 
 abbrev pub pairs_at : Option ℕ → ℕ → List Entry → List Pair
 pairs_at None first es = []
-pairs_at (Some place) first es = map (λ e. record { name = e.name; word = word_of (first + place) e.flag }) es
+pairs_at (Some place) first es = map (λ e. record { name = e.name; word = element_of (first + place) e.flag }) es
 
 -- what a set of an object publishes, where the object's first unit has the number `first` among all units
 abbrev pub pairs_of : ℕ → List CuBoundary → NameSet → List Pair
@@ -63,14 +63,14 @@ abbrev pub first_names : List Pair → List (List ℕ)
 first_names ps = firsts (map (λ p. p.name) ps)
 
 -- the words of a name, in input order
-abbrev pub words_in_order : List ℕ → List Pair → List ℕ
-words_in_order name ps = map (λ p. p.word) (filter (λ p. bytes_eq p.name name) ps)
+abbrev pub elements_in_order : List ℕ → List Pair → List ℕ
+elements_in_order name ps = map (λ p. p.word) (filter (λ p. bytes_eq p.name name) ps)
 
 -- the words of a name, ascending, repeats kept
-pub record IsWordsOf (name : List ℕ) (ps : List Pair) (words : List ℕ) : Type 0 where
-  pub same : IsPermutation (words_in_order name ps) words
+pub record IsVectorOf (name : List ℕ) (ps : List Pair) (words : List ℕ) : Type 0 where
+  pub same : IsPermutation (elements_in_order name ps) words
   pub ascending : IsNonDecreasing words
 
 -- a name has one list of words
-abbrev pub WordsAreOne : Type 0
-WordsAreOne = (name : List ℕ) (ps : List Pair) (vs ws : List ℕ) → IsWordsOf name ps vs → IsWordsOf name ps ws → vs ≡ ws
+abbrev pub VectorsAreOne : Type 0
+VectorsAreOne = (name : List ℕ) (ps : List Pair) (vs ws : List ℕ) → IsVectorOf name ps vs → IsVectorOf name ps ws → vs ≡ ws

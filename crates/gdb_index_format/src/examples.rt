@@ -2,16 +2,16 @@
 
 ghost use Rattle.std.specs.Prelude.{◌≡◌, length, Some, None, Ok, Err, codes, replicate, take, [], ◌∷◌, ◌++◌};
 ghost use Rattle.elf_format.specs.Class.{class64};
-ghost use Rattle.elf_format.specs.Example.{bytes_of, unit, set_of_main, small_object};
+ghost use Rattle.elf_format.specs.Example.{bytes_of_number, unit, set_of_main, small_object};
 ghost use Rattle.gdb_index_format.specs.declared.bad_index.BadIndex.TheVariants.{Version, Offsets, Slots};
 ghost use Rattle.gdb_index_format.specs.declared.unit.UnitFault.TheVariants.{Truncated, InvalidLength};
-ghost use Rattle.gdb_index_format.specs.Hash.{name_hash, word_of};
+ghost use Rattle.gdb_index_format.specs.Hash.{name_hash, element_of};
 ghost use Rattle.gdb_index_format.specs.Units.{IsUnitList, FailsAt, index_units, unit_length};
 ghost use Rattle.gdb_index_format.specs.Names.{IsSetList};
-ghost use Rattle.gdb_index_format.specs.Objects.{info_section, info_bytes, names_sections, first_compressed, IsObjectOf};
+ghost use Rattle.gdb_index_format.specs.Objects.{info_section, info_bytes, pubnames_sections, first_compressed, IsObjectOf};
 ghost use Rattle.gdb_index_format.specs.Published.{units_of_all, published};
 ghost use Rattle.gdb_index_format.specs.Probe.{probe};
-ghost use Rattle.gdb_index_format.specs.Example.{index_of_main, index_of_two, header_of};
+ghost use Rattle.gdb_index_format.specs.Example.{index_of_main, index_of_two, index_header};
 
 /// An index of one name.
 pub fn one_name_is_found()
@@ -33,9 +33,9 @@ pub fn two_names_are_found()
 /// Faults of an index as a whole.
 pub fn faulty_indexes()
     ensures short { probe (take 27 index_of_main) (codes "main") ≡ record { answer = Ok None; looks = 0 } }
-    ensures version { probe (header_of 7 28 28 28 28 28 28) [] ≡ record { answer = Err Version; looks = 0 } }
+    ensures version { probe (index_header 7 28 28 28 28 28 28) [] ≡ record { answer = Err Version; looks = 0 } }
     ensures offsets { probe (9 ∷ replicate 27 0) (codes "main") ≡ record { answer = Err Offsets; looks = 0 } }
-    ensures slots { probe (header_of 9 28 28 28 28 52 52 ++ replicate 24 0) [] ≡ record { answer = Err Slots; looks = 0 } }
+    ensures slots { probe (index_header 9 28 28 28 28 52 52 ++ replicate 24 0) [] ≡ record { answer = Err Slots; looks = 0 } }
     ensures no_units { index_units (9 ∷ replicate 26 0) ≡ [] }
 {}
 
@@ -55,7 +55,7 @@ pub fn small_units()
 pub fn small_sets()
     ensures none { IsSetList [] [] }
     ensures one { IsSetList set_of_main (record { unit = 0; entries = record { name = codes "main"; flag = 0x30 } ∷ [] } ∷ []) }
-    ensures word { word_of 1 0xb0 ≡ 0xb0000001 }
+    ensures word { element_of 1 0xb0 ≡ 0xb0000001 }
 {}
 
 /// The object of one unit and one name.

@@ -3,7 +3,7 @@
 ghost use Rattle.gdb_index_format.specs.Slots.{EachSlotOnce};
 ghost use Rattle.gdb_index_format.specs.Units.{UnitsAreOne};
 ghost use Rattle.gdb_index_format.specs.Names.{SetsAreOne};
-ghost use Rattle.gdb_index_format.specs.Published.{UnitsOfAllRun, WordsAreOne};
+ghost use Rattle.gdb_index_format.specs.Published.{UnitsOfAllRun, VectorsAreOne};
 ghost use Rattle.gdb_index_format.specs.Objects.{ObjectsAreOne};
 ghost use Rattle.gdb_index_format.specs.Size.{SizesAreOne};
 
@@ -24,7 +24,7 @@ pub fn sets_are_one()
 
 /// A name has one list of words.
 pub fn words_are_one()
-    ensures { WordsAreOne }
+    ensures { VectorsAreOne }
 {}
 
 /// Objects hold one list of units and one list of sets each.

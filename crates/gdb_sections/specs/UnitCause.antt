@@ -12,13 +12,13 @@ HasCauseAt b at (InvalidLength offset) = (offset ≡ at) × IsFault b at faults.
 HasCauseAt b at NoMemory = Unit {0}
 
 -- why the units of bytes are not read; want of memory needs no cause
-abbrev pub HasCause : List ℕ → UnitError → Type 0
-HasCause b (Truncated offset) = FailsAt b offset faults.Truncated
-HasCause b (InvalidLength offset) = FailsAt b offset faults.InvalidLength
-HasCause b NoMemory = Unit {0}
+abbrev pub IsUnitListCause : List ℕ → UnitError → Type 0
+IsUnitListCause b (Truncated offset) = FailsAt b offset faults.Truncated
+IsUnitListCause b (InvalidLength offset) = FailsAt b offset faults.InvalidLength
+IsUnitListCause b NoMemory = Unit {0}
 
 -- want of memory, and no other refusal
-abbrev pub IsOnlyMemory : UnitError → Type 0
-IsOnlyMemory (Truncated offset) = ⊥
-IsOnlyMemory (InvalidLength offset) = ⊥
-IsOnlyMemory NoMemory = Unit {0}
+abbrev pub IsUnitMemory : UnitError → Type 0
+IsUnitMemory (Truncated offset) = ⊥
+IsUnitMemory (InvalidLength offset) = ⊥
+IsUnitMemory NoMemory = Unit {0}

@@ -4,7 +4,7 @@
 ghost use Rattle.std.specs.Prelude.{◌≡◌, ℕ, List, ◌+◌, ◌<◌, ◌≤◌, ◌^◌, length, IfOk, IfErr};
 ghost use Rattle.gdb_index_format.specs.declared.unit.CuBoundary.{CuBoundary as CuBoundary_spec};
 ghost use Rattle.gdb_index_format.specs.Units.{unit_length, IsUnitList};
-ghost use Rattle.gdb_sections.specs.UnitCause.{HasCause, HasCauseAt, IsOnlyMemory};
+ghost use Rattle.gdb_sections.specs.UnitCause.{IsUnitListCause, HasCauseAt, IsUnitMemory};
 
 use elf_words::{read_u32, read_u64};
 use gdb_index_format::CuBoundary;
@@ -67,8 +67,8 @@ fn unit_length_at(bytes: &[u8], at: usize) -> Result<usize, UnitError>
 /// any bytes. The bytes have units exactly where neither of the first two has a cause (DWARF 5, 7.4 and 7.5.1).
 pub fn parse_cu_boundaries(alloc: Global, bytes: &[u8]) -> Result<Vec<CuBoundary>, UnitError>
     ensures ok { IfOk result (λ units. IsUnitList bytes.now units.items) }
-    ensures cause { IfErr result (HasCause bytes.now) }
-    ensures complete { (units : List CuBoundary_spec) → IsUnitList bytes.now units → IfErr result IsOnlyMemory }
+    ensures cause { IfErr result (IsUnitListCause bytes.now) }
+    ensures complete { (units : List CuBoundary_spec) → IsUnitList bytes.now units → IfErr result IsUnitMemory }
 {
     let mut units = Vec::new(alloc);
     let mut at = 0;

@@ -22,7 +22,7 @@ use Rattle.gdb_index_format.specs.Addresses.{unit_of_section, unit_relocation_fa
 use Rattle.gdb_tables.specs.Addresses.{unit_in, address_entry, addresses, fault_from, first_relocation_fault, entry_at, has_entry, entries_of, IsEntriesCause, IsAddressCause}
 use Rattle.gdb_tables.specs.declared.error.GdbError.{GdbError}
 use Rattle.gdb_tables.specs.declared.error.GdbError.TheVariants.{BadElf, CompressedSection, BadUnit, BadPubnames, TooManyUnits, IndexTooLarge, NoMemory}
-use Rattle.gdb_tables.specs.Files.{bytes_of, IsThere, ArePlacedIn}
+use Rattle.gdb_tables.specs.Files.{file_bytes, IsThere, ArePlacedIn}
 use Rattle.gdb_tables.specs.PlacedIn.{of_object}
 use Rattle.gdb_tables.proofs.Windows.{objects_do_not_fall}
 use Rattle.gdb_tables.proofs.Merging.{length-placed}
@@ -63,9 +63,9 @@ below_next object (p ∷ ps) rise = elim (cases_lt p.object object) [
       ∙ ap (λ l. l ++ of_object object (p ∷ ps)) (sym (passes_none (λ (q : Placement). ltb q.object object) (p ∷ ps) (λ k d l. not_below (get_or (p ∷ ps) k d).object object (high k d l))))
 ]
 
-pub below_all : (c : Class) (files : List Parsed) (ps : List Placement) (object : ℕ) → ArePlacedIn c (bytes_of files) ps → length files ≤ object → below object ps ≡ ps
+pub below_all : (c : Class) (files : List Parsed) (ps : List Placement) (object : ℕ) → ArePlacedIn c (file_bytes files) ps → length files ≤ object → below object ps ≡ ps
 below_all c files ps object are past = passes_all (λ p. ltb p.object object) ps (λ k d l. lt-ltb (get_or ps k d).object object (omega (arith, past, number files (get_or ps k d).object (get_or ps k d).section (are.there k d l)))) where
-  number : (fs : List Parsed) (n section : ℕ) → IsThere c (slice_get (bytes_of fs) n) section → n < length fs
+  number : (fs : List Parsed) (n section : ℕ) → IsThere c (slice_get (file_bytes fs) n) section → n < length fs
   number [] zero section h = absurd h
   number [] (suc n) section h = absurd h
   number (f ∷ fs) zero section h = omega arith
@@ -75,10 +75,10 @@ below_all c files ps object are past = passes_all (λ p. ltb p.object object) ps
 
 -- whether a placement has an entry
 abbrev counted : Class → List Parsed → List Object → Placement → Bool
-counted c files os p = counts_in c (slice_get (bytes_of files) p.object) (slice_get os p.object) p && ltb 0 p.address
+counted c files os p = counts_in c (slice_get (file_bytes files) p.object) (slice_get os p.object) p && ltb 0 p.address
 
 addresses_picked : (c : Class) (files : List Parsed) (os : List Object) (ps : List Placement) → addresses c files os ps ≡ picks (counted c files os) (address_entry c files os) ps
-addresses_picked c files os ps = two_tests (λ p. ltb 0 p.address) (λ p. counts_in c (slice_get (bytes_of files) p.object) (slice_get os p.object) p) (address_entry c files os) ps
+addresses_picked c files os ps = two_tests (λ p. ltb 0 p.address) (λ p. counts_in c (slice_get (file_bytes files) p.object) (slice_get os p.object) p) (address_entry c files os) ps
 
 addresses-append : (c : Class) (files : List Parsed) (os : List Object) (ps qs : List Placement) → addresses c files os (ps ++ qs) ≡ addresses c files os ps ++ addresses c files os qs
 addresses-append c files os ps qs =
@@ -88,7 +88,7 @@ addresses-append c files os ps qs =
     ∙ ap (λ l. l ++ picks (counted c files os) (address_entry c files os) qs) (sym (addresses_picked c files os ps))
     ∙ ap (λ l. addresses c files os ps ++ l) (sym (addresses_picked c files os qs))
 
-bytes_at : (files : List Parsed) (i : ℕ) (f : Parsed) → slice_get files i ≡ Some f → slice_get (bytes_of files) i ≡ Some f.bytes
+bytes_at : (files : List Parsed) (i : ℕ) (f : Parsed) → slice_get files i ≡ Some f → slice_get (file_bytes files) i ≡ Some f.bytes
 bytes_at [] zero f e = absurd (cc e)
 bytes_at [] (suc i) f e = absurd (cc e)
 bytes_at (x ∷ files) zero f e = let same : x ≡ f = cc e in ap (λ (y : Parsed). Some y.bytes) same
@@ -120,7 +120,7 @@ module _ (c : Class) (files : List Parsed) (os : List Object) (object : ℕ) (f 
 
   counted_here : (p : Placement) → eqb p.object object ≡ true → counted c files os p ≡ (has_entry c f.bytes p && has_unit o.units)
   counted_here p e = by p.object (eqb-true p.object object e) where
-    by : (n : ℕ) → n ≡ object → (counts_in c (slice_get (bytes_of files) n) (slice_get os n) p && ltb 0 p.address) ≡ (has_entry c f.bytes p && has_unit o.units)
+    by : (n : ℕ) → n ≡ object → (counts_in c (slice_get (file_bytes files) n) (slice_get os n) p && ltb 0 p.address) ≡ (has_entry c f.bytes p && has_unit o.units)
     by n is = rw (is, bytes_at files object f file, held) (in_any_order (ltb 0 p.size) (is_code c (slice_get (sections c f.bytes) p.section)) (has_unit o.units) (ltb 0 p.address))
 
   pub own_addresses : (ps : List Placement) → addresses c files os (of_object object ps) ≡ entries_of c f (length (units_in_objects (take object os))) o.units (of_object object ps)
@@ -142,13 +142,13 @@ pub added_none : (c : Class) (files : List Parsed) (os : List Object) (ps : List
 added_none c files os ps entries none = record { made = none ∙ ap (addresses c files os) (sym (none_below ps)); units = refl; sound = refl }
 
 -- an object that is there, by its file
-pub object_at : (c : Class) (files : List Parsed) (os : List Object) (i : ℕ) (f : Parsed) → AreObjectsOf c (bytes_of files) os → i < length files → f ≡ get_or files i f → (o : Object) × (slice_get os i ≡ Some o) × IsObjectOf c f.bytes o
+pub object_at : (c : Class) (files : List Parsed) (os : List Object) (i : ℕ) (f : Parsed) → AreObjectsOf c (file_bytes files) os → i < length files → f ≡ get_or files i f → (o : Object) × (slice_get os i ≡ Some o) × IsObjectOf c f.bytes o
 object_at c [] os i f held l is = absurd (omega arith)
 object_at c (x ∷ files) [] i f held l is = absurd held
 object_at c (x ∷ files) (o ∷ os) zero f held l is = (o, refl, subst (λ (y : Parsed). IsObjectOf c y.bytes o) (sym is) held.0)
 object_at c (x ∷ files) (o ∷ os) (suc i) f held l is = object_at c files os i f held.1 (omega arith) is
 
-pub as_many_objects : (c : Class) (files : List Parsed) (os : List Object) → AreObjectsOf c (bytes_of files) os → length files ≡ length os
+pub as_many_objects : (c : Class) (files : List Parsed) (os : List Object) → AreObjectsOf c (file_bytes files) os → length files ≡ length os
 as_many_objects c [] [] held = refl
 as_many_objects c [] (o ∷ os) held = absurd held
 as_many_objects c (f ∷ files) [] held = absurd held
@@ -184,7 +184,7 @@ module _ (c : Class) (files : List Parsed) (os : List Object) (object : ℕ) (f 
   faults_here : fault_from object c (drop object files) (drop object os) ≡ option_or (option_map (λ e. (object, e)) (unit_relocation_fault c f.is_dynamic f.bytes o.units)) (fault_from (object + 1) c (drop (object + 1) files) (drop (object + 1) os))
   faults_here = ap (λ fs. fault_from object c fs (drop object os)) (front files object f file) ∙ ap (λ xs. fault_from object c (f ∷ drop (object + 1) files) xs) (front os object o held)
 
-pub added_more : (c : Class) (files : List Parsed) (os : List Object) (ps : List Placement) (object first : ℕ) (old new : List AddressEntry) (f : Parsed) (o : Object) (count : ℕ) → ArePlacedIn c (bytes_of files) ps → object < length files → f ≡ get_or files object f → slice_get os object ≡ Some o → count ≡ length o.units → new ≡ old ++ entries_of c f first o.units (of_object object ps) → unit_relocation_fault c f.is_dynamic f.bytes o.units ≡ None → Added c files os ps object first old → Added c files os ps (object + 1) (first + count) new
+pub added_more : (c : Class) (files : List Parsed) (os : List Object) (ps : List Placement) (object first : ℕ) (old new : List AddressEntry) (f : Parsed) (o : Object) (count : ℕ) → ArePlacedIn c (file_bytes files) ps → object < length files → f ≡ get_or files object f → slice_get os object ≡ Some o → count ≡ length o.units → new ≡ old ++ entries_of c f first o.units (of_object object ps) → unit_relocation_fault c f.is_dynamic f.bytes o.units ≡ None → Added c files os ps object first old → Added c files os ps (object + 1) (first + count) new
 added_more c files os ps object first old new f o count placed l is held counted more sound before = record {
   made =
       more
@@ -213,11 +213,11 @@ first_fault c files os ps object first entries f o (TooManyUnits n) l is held ca
 first_fault c files os ps object first entries f o (IndexTooLarge n) l is held cause before = cause
 first_fault c files os ps object first entries f o NoMemory l is held cause before = tt
 
-pub added_all : (c : Class) (files : List Parsed) (os : List Object) (ps : List Placement) (object first : ℕ) (entries : List AddressEntry) → ArePlacedIn c (bytes_of files) ps → length files ≤ object → Added c files os ps object first entries → entries ≡ addresses c files os ps
+pub added_all : (c : Class) (files : List Parsed) (os : List Object) (ps : List Placement) (object first : ℕ) (entries : List AddressEntry) → ArePlacedIn c (file_bytes files) ps → length files ≤ object → Added c files os ps object first entries → entries ≡ addresses c files os ps
 added_all c files os ps object first entries placed past added = added.made ∙ ap (addresses c files os) (below_all c files ps object placed past)
 
-pub few_addresses : (c : Class) (files : List Parsed) (os : List Object) (ps : List Placement) → length (addresses c files os ps) ≤ length (placements_that_count c (bytes_of files) os ps)
-few_addresses c files os ps = omega (arith, length-map (filter (λ p. ltb 0 p.address) (placements_that_count c (bytes_of files) os ps)) (address_entry c files os), passes_few (λ (p : Placement). ltb 0 p.address) (placements_that_count c (bytes_of files) os ps))
+pub few_addresses : (c : Class) (files : List Parsed) (os : List Object) (ps : List Placement) → length (addresses c files os ps) ≤ length (placements_that_count c (file_bytes files) os ps)
+few_addresses c files os ps = omega (arith, length-map (filter (λ p. ltb 0 p.address) (placements_that_count c (file_bytes files) os ps)) (address_entry c files os), passes_few (λ (p : Placement). ltb 0 p.address) (placements_that_count c (file_bytes files) os ps))
 
 pub own_fit : (object : ℕ) (ps : List Placement) → All (λ p. p.address + p.size < 2 ^ 64) ps → All (λ p. p.address + p.size < 2 ^ 64) (of_object object ps)
 own_fit object ps fit = All-filter (λ p. eqb p.object object) (λ p. p.address + p.size < 2 ^ 64) ps fit

@@ -13,7 +13,7 @@ use Rattle.gdb_addresses.specs.declared.error.MapError.{MapError}
 use Rattle.gdb_addresses.specs.declared.error.MapError.TheVariants.{Elf}
 use Rattle.gdb_addresses.specs.declared.error.MapError.TheVariants as maps
 use Rattle.gdb_addresses.specs.Cause.{IsMapCause}
-use Rattle.gdb_index_format.specs.Addresses.{unit_relocations, tells, told_unit, section_unit, unit_of_section, relocation_fault, unit_relocation_fault}
+use Rattle.gdb_index_format.specs.Addresses.{unit_relocations, assigns, assigned_unit, section_unit, unit_of_section, relocation_fault, unit_relocation_fault}
 use Rattle.gdb_index_format.specs.declared.unit.CuBoundary.{CuBoundary}
 use Rattle.gdb_index_format.specs.declared.placement.Placement.{Placement}
 use Rattle.gdb_index_format.specs.Placed.{has_unit}
@@ -95,9 +95,9 @@ unit_within c d file us q = either (ltb 1 (length us)) (unwrap_or (section_unit 
   found_at None = omega arith
   found_at (Some r) = held_at us r.offset
 
-  by_relocations : (rs : Result (List Crel) ElfError) → unwrap_or (told_unit c d file us q rs) 0 ≤ length us
+  by_relocations : (rs : Result (List Crel) ElfError) → unwrap_or (assigned_unit c d file us q rs) 0 ≤ length us
   by_relocations (Err e) = omega arith
-  by_relocations (Ok rs) = found_at (find (tells c d file us q) rs)
+  by_relocations (Ok rs) = found_at (find (assigns c d file us q) rs)
 
   either : (b : Bool) (n : ℕ) → n ≤ length us → cond b n 0 ≤ length us
   either true n le = le

@@ -9,7 +9,7 @@ use Rattle.elf_format.specs.Class.{Class}
 use Rattle.elf_format.specs.Section.{sections, section_bytes}
 use Rattle.gdb_index_format.specs.declared.unit.CuBoundary.{CuBoundary}
 use Rattle.gdb_index_format.specs.Names.{NameSet}
-use Rattle.gdb_index_format.specs.Objects.{is_names_section, names_sections, AreSetsIn, AreSetsOfSections}
+use Rattle.gdb_index_format.specs.Objects.{is_pubnames_section, pubnames_sections, AreSetsIn, AreSetsOfSections}
 use Rattle.gdb_sections.specs.Clean.{IsClean}
 use Rattle.gdb_tables.specs.declared.error.GdbError.{GdbError}
 use Rattle.gdb_tables.specs.declared.mark.Mark.{Mark}
@@ -21,7 +21,7 @@ use Rattle.gdb_tables.specs.Gathered.{Gathers}
 use Rattle.gdb_tables.proofs.Grouping.{add_all-append}
 
 abbrev pub holds_names : Class → List ℕ → ℕ × List ℕ → Bool
-holds_names c file s = is_names_section c file s.1
+holds_names c file s = is_pubnames_section c file s.1
 
 more_passed : (p : ℕ × List ℕ → Bool) (done : List (ℕ × List ℕ)) (s : ℕ × List ℕ) → p s ≡ true → filter p (done ++ s ∷ []) ≡ filter p done ++ s ∷ []
 more_passed p done s e = filter-append p done (s ∷ []) ∙ ap (λ l. filter p done ++ l) (cond-true (p s) (s ∷ []) [] e)
@@ -65,5 +65,5 @@ first_bad c object file us done s rest names e whole passed h cause = record {
   cause = cause;
 }
 
-pub gathers_all : (c : Class) (file : List ℕ) (us : List CuBoundary) (done rest : List (ℕ × List ℕ)) (names : List (List ℕ × List Mark)) → done ++ rest ≡ enumerate_from 0 (sections c file) → rest ≡ [] → Gathers c file us (filter (holds_names c file) done) names → Gathers c file us (names_sections c file) names
+pub gathers_all : (c : Class) (file : List ℕ) (us : List CuBoundary) (done rest : List (ℕ × List ℕ)) (names : List (List ℕ × List Mark)) → done ++ rest ≡ enumerate_from 0 (sections c file) → rest ≡ [] → Gathers c file us (filter (holds_names c file) done) names → Gathers c file us (pubnames_sections c file) names
 gathers_all c file us done rest names whole none h = subst (λ l. Gathers c file us (filter (holds_names c file) l) names) (sym (append-nil done) ∙ ap (λ l. done ++ l) (sym none) ∙ whole) h

@@ -8,7 +8,7 @@ use Rattle.gdb_index.specs.declared.size.IndexCounts.{IndexCounts}
 use Rattle.gdb_index.specs.declared.size.IndexTooLarge.{IndexTooLarge as TooLarge}
 use Rattle.gdb_index_format.specs.declared.placement.Placement.{Placement}
 use Rattle.gdb_index_format.specs.Named.{ListsPublished}
-use Rattle.gdb_index_format.specs.Published.{Object, units_of_all, one_behind_another, published}
+use Rattle.gdb_index_format.specs.Published.{Object, units_of_all, end_to_end, published}
 use Rattle.gdb_index_format.specs.Objects.{AreObjectsOf}
 use Rattle.gdb_index_format.specs.Placed.{placed}
 use Rattle.gdb_index_format.specs.Size.{Counts, IsSize, counts_of, size_with}
@@ -36,8 +36,8 @@ objects_as_files c (f ∷ files) (o ∷ os) h = ap Rattle.std.proofs.Common.suc 
 pub scans_as_files : (c : Class) (files : List (List ℕ)) (ps : List Placement) (ss : List (Option ObjectScan)) → ScansObjects c files ps ss → length ss ≡ length files
 scans_as_files c files ps ss done = as_many done.objects ss done.scanned ∙ objects_as_files c files done.objects done.held
 
-same_units : (os : List Object) (ss : List (Option ObjectScan)) → AreScansOf os ss → one_behind_another 0 (units_in_scans ss) ≡ units_of_all os
-same_units os ss scanned = ap (one_behind_another 0) (units_of_scans os ss scanned)
+same_units : (os : List Object) (ss : List (Option ObjectScan)) → AreScansOf os ss → end_to_end 0 (units_in_scans ss) ≡ units_of_all os
+same_units os ss scanned = ap (end_to_end 0) (units_of_scans os ss scanned)
 
 same_total : (os : List Object) (ss : List (Option ObjectScan)) → AreScansOf os ss → unit_total ss ≡ length (units_of_all os)
 same_total os ss scanned = sym (unit_number_of ss) ∙ ap length (same_units os ss scanned)
@@ -98,10 +98,10 @@ same_counts u p n w b v q o x d e f g h i =
     ∙ ap (λ (k : ℕ). record { units = v; placed = q; names = o; words = k; name_bytes = b }) h
     ∙ ap (λ (k : ℕ). record { units = v; placed = q; names = o; words = x; name_bytes = k }) i
 
-counts_are : (c : Class) (files : List (List ℕ)) (ps : List Placement) (os : List Object) (m : Scan) → Gathered c files ps os m → index.counted (index.counts_of m) ≡ counts_of os (length (placed c files os ps))
+counts_are : (c : Class) (files : List (List ℕ)) (ps : List Placement) (os : List Object) (m : Scan) → Gathered c files ps os m → index.format_counts (index.scan_counts m) ≡ counts_of os (length (placed c files os ps))
 counts_are c files ps os m all = same_counts _ _ _ _ _ _ _ _ _ _ (ap length all.units) all.placed (names_counted (published os) m.names all.names) (words_counted (published os) m.names all.names) (bytes_counted (published os) m.names all.names)
 
-pub counts_small : (c : Class) (files : List (List ℕ)) (ps : List Placement) (ss : List (Option ObjectScan)) (m : Scan) (counts : IndexCounts) (done : ScansObjects c files ps ss) → Gathered c files ps done.objects m → length files < 2 ^ 24 → counts ≡ index.counts_of m → index.AreSmall counts
+pub counts_small : (c : Class) (files : List (List ℕ)) (ps : List Placement) (ss : List (Option ObjectScan)) (m : Scan) (counts : IndexCounts) (done : ScansObjects c files ps ss) → Gathered c files ps done.objects m → length files < 2 ^ 24 → counts ≡ index.scan_counts m → index.AreSmall counts
 counts_small c files ps ss m counts done all few is =
     let os = done.objects in
     let lists = all.names in
@@ -113,10 +113,10 @@ counts_small c files ps ss m counts done all few is =
       name_bytes = omega (arith, bytes_counted (published os) m.names lists, bytes_small (published os), done.small);
     }
 
-size_of : (version : ℕ) (c : Class) (files : List (List ℕ)) (ps : List Placement) (os : List Object) (m : Scan) (counts : IndexCounts) (size : ℕ) → Gathered c files ps os m → counts ≡ index.counts_of m → index.IsIndexSize version counts size → IsSize version (counts_of os (length (placed c files os ps))) size
-size_of version c files ps os m counts size all is sized = subst (λ n. IsSize version n size) (ap index.counted is ∙ counts_are c files ps os m all) sized
+size_of : (version : ℕ) (c : Class) (files : List (List ℕ)) (ps : List Placement) (os : List Object) (m : Scan) (counts : IndexCounts) (size : ℕ) → Gathered c files ps os m → counts ≡ index.scan_counts m → index.IsIndexSize version counts size → IsSize version (counts_of os (length (placed c files os ps))) size
+size_of version c files ps os m counts size all is sized = subst (λ n. IsSize version n size) (ap index.format_counts is ∙ counts_are c files ps os m all) sized
 
-pub sized_some : (version : ℕ) (c : Class) (files : List (List ℕ)) (ps : List Placement) (ss : List (Option ObjectScan)) (m : Scan) (counts : IndexCounts) (size : ℕ) (done : ScansObjects c files ps ss) → Gathered c files ps done.objects m → 0 < length m.units → counts ≡ index.counts_of m → index.IsCountable version counts size → SizesIndex version c files ps size (Some m)
+pub sized_some : (version : ℕ) (c : Class) (files : List (List ℕ)) (ps : List Placement) (ss : List (Option ObjectScan)) (m : Scan) (counts : IndexCounts) (size : ℕ) (done : ScansObjects c files ps ss) → Gathered c files ps done.objects m → 0 < length m.units → counts ≡ index.scan_counts m → index.IsCountable version counts size → SizesIndex version c files ps size (Some m)
 sized_some version c files ps ss m counts size done all some is sized = record {
   objects = done.objects;
   held = done.held;
@@ -126,5 +126,5 @@ sized_some version c files ps ss m counts size done all some is sized = record {
   scanned = record { some = omega (arith, some, ap length all.units); units = all.units; counts = all.counts; placed = all.placed; names = all.names };
 }
 
-pub sized_large : (version : ℕ) (c : Class) (files : List (List ℕ)) (ps : List Placement) (ss : List (Option ObjectScan)) (m : Scan) (counts : IndexCounts) (e : TooLarge) (done : ScansObjects c files ps ss) → Gathered c files ps done.objects m → counts ≡ index.counts_of m → index.IsTooLarge version counts e → IsSizeCause version c files ps (IndexTooLarge e.0)
+pub sized_large : (version : ℕ) (c : Class) (files : List (List ℕ)) (ps : List Placement) (ss : List (Option ObjectScan)) (m : Scan) (counts : IndexCounts) (e : TooLarge) (done : ScansObjects c files ps ss) → Gathered c files ps done.objects m → counts ≡ index.scan_counts m → index.IsTooLarge version counts e → IsSizeCause version c files ps (IndexTooLarge e.0)
 sized_large version c files ps ss m counts e done all is large = too_large done.objects done.held done.plain all.few e.0 (size_of version c files ps done.objects m counts e.0 all is large.size) large.above

@@ -5,7 +5,7 @@ use Rattle.std.specs.List.Sorted.{IsPermutation}
 use Rattle.std.specs.Str.{bytes_eq}
 use Rattle.std.proofs.lemmas.Bool.{cases_Bool, cond-true, cond-false}
 use Rattle.std.proofs.lemmas.List.Sorted.{length_permutation}
-use Rattle.gdb_index_format.specs.Published.{Object, Pair, published, words_in_order, IsWordsOf, firsts}
+use Rattle.gdb_index_format.specs.Published.{Object, Pair, published, elements_in_order, IsVectorOf, firsts}
 use Rattle.gdb_index_format.specs.Named.{Named, AreDistinct, IsNamed, ListsPublished}
 use Rattle.gdb_tables.specs.Groups.{names_of, values_of, groups}
 use Rattle.gdb_tables.specs.Scan.{ObjectScan, words_from, pair_in, published_in_scans, AreScansOf}
@@ -15,17 +15,17 @@ use Rattle.gdb_tables.proofs.Pairing.{groups_alike, HaveSome, HaveSome-firsts}
 use Rattle.gdb_tables.proofs.Publishing.{as_pair, as_pairs, scans_published}
 
 -- the values of a name among pairs are its words
-pub words_are : (ps : List Pair) (name : Name) → values_of name (as_pairs ps) ≡ words_in_order name ps
+pub words_are : (ps : List Pair) (name : Name) → values_of name (as_pairs ps) ≡ elements_in_order name ps
 words_are [] name = refl
 words_are (p ∷ ps) name =
     elim (cases_Bool (bytes_eq p.name name)) [
       | inl same ↦ value-same name (as_pair p) (as_pairs ps) same ∙ ap (λ ws. p.word ∷ ws) (words_are ps name) ∙ sym (pair-same p ps name same)
       | inr other ↦ value-other name (as_pair p) (as_pairs ps) other ∙ words_are ps name ∙ sym (pair-other p ps name other)
     ] where
-      pair-same : (p : Pair) (ps : List Pair) (name : Name) → bytes_eq p.name name ≡ true → words_in_order name (p ∷ ps) ≡ p.word ∷ words_in_order name ps
+      pair-same : (p : Pair) (ps : List Pair) (name : Name) → bytes_eq p.name name ≡ true → elements_in_order name (p ∷ ps) ≡ p.word ∷ elements_in_order name ps
       pair-same p ps name e = ap (map (λ (x : Pair). x.word)) (cond-true (bytes_eq p.name name) (p ∷ filter (λ (x : Pair). bytes_eq x.name name) ps) (filter (λ (x : Pair). bytes_eq x.name name) ps) e)
 
-      pair-other : (p : Pair) (ps : List Pair) (name : Name) → bytes_eq p.name name ≡ false → words_in_order name (p ∷ ps) ≡ words_in_order name ps
+      pair-other : (p : Pair) (ps : List Pair) (name : Name) → bytes_eq p.name name ≡ false → elements_in_order name (p ∷ ps) ≡ elements_in_order name ps
       pair-other p ps name e = ap (map (λ (x : Pair). x.word)) (cond-false (bytes_eq p.name name) (p ∷ filter (λ (x : Pair). bytes_eq x.name name) ps) (filter (λ (x : Pair). bytes_eq x.name name) ps) e)
 
 names_sorted : (f : Name → List ℕ) (fs : List Name) (ns : List Named) → AreSorted (tabled f fs) ns → map (λ n. n.name) ns ≡ fs
@@ -35,12 +35,12 @@ names_sorted f (m ∷ fs) [] h = absurd h
 names_sorted f (m ∷ fs) (n ∷ ns) h = ap (λ k. k ∷ map (λ (x : Named). x.name) ns) h.0 ∙ ap (λ ks. m ∷ ks) (names_sorted f fs ns h.3)
 
 -- what holds of each name of a sorted list
-words_sorted : (ps : List Pair) (fs : List Name) (ns : List Named) → HaveSome (λ m. values_of m (as_pairs ps)) fs → AreSorted (tabled (λ m. values_of m (as_pairs ps)) fs) ns → All (λ n. (n.words ≢ []) × IsWordsOf n.name ps n.words) ns
+words_sorted : (ps : List Pair) (fs : List Name) (ns : List Named) → HaveSome (λ m. values_of m (as_pairs ps)) fs → AreSorted (tabled (λ m. values_of m (as_pairs ps)) fs) ns → All (λ n. (n.words ≢ []) × IsVectorOf n.name ps n.words) ns
 words_sorted ps [] [] some h k d l = absurd (omega arith)
 words_sorted ps [] (n ∷ ns) some h k d l = absurd h
 words_sorted ps (m ∷ fs) [] some h k d l = absurd h
 words_sorted ps (m ∷ fs) (n ∷ ns) some h zero d l =
-    let values : values_of m (as_pairs ps) ≡ words_in_order n.name ps = words_are ps m ∙ ap (λ k. words_in_order k ps) (sym h.0) in (
+    let values : values_of m (as_pairs ps) ≡ elements_in_order n.name ps = words_are ps m ∙ ap (λ k. elements_in_order k ps) (sym h.0) in (
       λ none. some.0 (nil_from (values_of m (as_pairs ps)) (sym (length_permutation (values_of m (as_pairs ps)) n.words h.1) ∙ ap length none)),
       record { same = subst (λ ws. IsPermutation ws n.words) values h.1; ascending = h.2 },
     ) where

@@ -4,14 +4,14 @@ use Rattle.std.specs.Prelude.{sum}
 use Rattle.std.specs.List.{All, AllByRecursion}
 use Rattle.std.specs.List.Sorted.{IsPermutation, IsNonDecreasing}
 use Rattle.std.proofs.lemmas.List.{drop_more, length-append, append-nil, nil_from_length}
-use Rattle.gdb_index_format.specs.Hash.{word_of}
+use Rattle.gdb_index_format.specs.Hash.{element_of}
 use Rattle.gdb_tables.proofs.Listing.{lists_of_scans}
 use Rattle.std.proofs.lemmas.List.Sums.{sum_by-cons}
 use Rattle.std.proofs.lemmas.List.Sorted.{All-permutation}
-use Rattle.gdb_index.specs.Scan.{IsIndexName, IsSound, unit_number}
+use Rattle.gdb_index.specs.Scan.{IsIndexName, IsWellFormedScan, unit_number}
 use Rattle.gdb_index_format.specs.declared.unit.CuBoundary.{CuBoundary}
 use Rattle.gdb_index_format.specs.Named.{Named}
-use Rattle.gdb_index_format.specs.Published.{one_behind_another, firsts}
+use Rattle.gdb_index_format.specs.Published.{end_to_end, firsts}
 use Rattle.gdb_index_format.specs.Units.{total_length}
 use Rattle.gdb_tables.specs.declared.mark.Mark.{Mark}
 use Rattle.gdb_tables.specs.declared.mark.NameMarks.{NameMarks}
@@ -55,31 +55,31 @@ lengths-append : (xs ys : List CuBoundary) → total_length (xs ++ ys) ≡ total
 lengths-append [] ys = omega arith
 lengths-append (x ∷ xs) ys = omega (arith, lengths-append xs ys, sum_by-cons (λ (u : CuBoundary). u.length) x (xs ++ ys), sum_by-cons (λ (u : CuBoundary). u.length) x xs)
 
-pub placed-append : (at : ℕ) (xs ys : List CuBoundary) → one_behind_another at (xs ++ ys) ≡ one_behind_another at xs ++ one_behind_another (at + total_length xs) ys
-placed-append at [] ys = ap (λ (n : ℕ). one_behind_another n ys) (plain at) where
+pub placed-append : (at : ℕ) (xs ys : List CuBoundary) → end_to_end at (xs ++ ys) ≡ end_to_end at xs ++ end_to_end (at + total_length xs) ys
+placed-append at [] ys = ap (λ (n : ℕ). end_to_end n ys) (plain at) where
   plain : (n : ℕ) → n ≡ n + 0
   plain n = omega arith
 placed-append at (x ∷ xs) ys =
-    ap (λ us. record { offset = at; length = x.length } ∷ us) (placed-append (at + x.length) xs ys ∙ ap (λ (n : ℕ). one_behind_another (at + x.length) xs ++ one_behind_another n ys) (omega (arith, sum_by-cons (λ (u : CuBoundary). u.length) x xs)))
+    ap (λ us. record { offset = at; length = x.length } ∷ us) (placed-append (at + x.length) xs ys ∙ ap (λ (n : ℕ). end_to_end (at + x.length) xs ++ end_to_end n ys) (omega (arith, sum_by-cons (λ (u : CuBoundary). u.length) x xs)))
 
-pub unit_step : (done all : List CuBoundary) (place : ℕ) (us : List CuBoundary) (i : ℕ) (u : CuBoundary) → i < length us → u ≡ get_or us i u → done ++ one_behind_another place (drop i us) ≡ all → (done ++ record { offset = place; length = u.length } ∷ []) ++ one_behind_another (place + u.length) (drop (i + 1) us) ≡ all
+pub unit_step : (done all : List CuBoundary) (place : ℕ) (us : List CuBoundary) (i : ℕ) (u : CuBoundary) → i < length us → u ≡ get_or us i u → done ++ end_to_end place (drop i us) ≡ all → (done ++ record { offset = place; length = u.length } ∷ []) ++ end_to_end (place + u.length) (drop (i + 1) us) ≡ all
 unit_step done all place us i u l is left =
-    append_assoc done (record { offset = place; length = u.length } ∷ []) (one_behind_another (place + u.length) (drop (i + 1) us))
-    ∙ ap (λ x. done ++ x) (sym (ap (one_behind_another place) (drop_more us i u l ∙ ap (λ (x : CuBoundary). x ∷ drop (i + 1) us) (sym is))))
+    append_assoc done (record { offset = place; length = u.length } ∷ []) (end_to_end (place + u.length) (drop (i + 1) us))
+    ∙ ap (λ x. done ++ x) (sym (ap (end_to_end place) (drop_more us i u l ∙ ap (λ (x : CuBoundary). x ∷ drop (i + 1) us) (sym is))))
     ∙ left
 
 pub length_step : (place total : ℕ) (us : List CuBoundary) (i : ℕ) (u : CuBoundary) → i < length us → u ≡ get_or us i u → place + total_length (drop i us) ≡ total → place + u.length + total_length (drop (i + 1) us) ≡ total
 length_step place total us i u l is left =
     omega (arith, ap total_length (drop_more us i u l ∙ ap (λ (x : CuBoundary). x ∷ drop (i + 1) us) (sym is)), sum_by-cons (λ (x : CuBoundary). x.length) u (drop (i + 1) us), left)
 
-pub units_step : (done all : List CuBoundary) (place : ℕ) (ss : Scans) (i : ℕ) (s : Option ObjectScan) → i < length ss → s ≡ get_or ss i s → done ++ one_behind_another place (units_in_scans (drop i ss)) ≡ all → (done ++ one_behind_another place (units_in_scan s)) ++ one_behind_another (place + total_length (units_in_scan s)) (units_in_scans (drop (i + 1) ss)) ≡ all
+pub units_step : (done all : List CuBoundary) (place : ℕ) (ss : Scans) (i : ℕ) (s : Option ObjectScan) → i < length ss → s ≡ get_or ss i s → done ++ end_to_end place (units_in_scans (drop i ss)) ≡ all → (done ++ end_to_end place (units_in_scan s)) ++ end_to_end (place + total_length (units_in_scan s)) (units_in_scans (drop (i + 1) ss)) ≡ all
 units_step done all place ss i s l is left =
-    append_assoc done (one_behind_another place (units_in_scan s)) (one_behind_another (place + total_length (units_in_scan s)) (units_in_scans (drop (i + 1) ss)))
+    append_assoc done (end_to_end place (units_in_scan s)) (end_to_end (place + total_length (units_in_scan s)) (units_in_scans (drop (i + 1) ss)))
     ∙ ap (λ x. done ++ x) (sym (placed-append place (units_in_scan s) (units_in_scans (drop (i + 1) ss))))
-    ∙ ap (λ x. done ++ one_behind_another place x) (sym (ap units_in_scans (front ss i s l is)))
+    ∙ ap (λ x. done ++ end_to_end place x) (sym (ap units_in_scans (front ss i s l is)))
     ∙ left
 
-pub length-placed : (at : ℕ) (us : List CuBoundary) → length (one_behind_another at us) ≡ length us
+pub length-placed : (at : ℕ) (us : List CuBoundary) → length (end_to_end at us) ≡ length us
 length-placed at [] = refl
 length-placed at (u ∷ us) = ap suc (length-placed (at + u.length) us)
 
@@ -87,7 +87,7 @@ length-units : (ss : Scans) → length (units_in_scans ss) ≡ unit_total ss
 length-units [] = refl
 length-units (s ∷ ss) = omega (arith, length-append (units_in_scan s) (units_in_scans ss), length-units ss, sum_next (length (units_in_scan s)) (unit_counts ss))
 
-pub unit_number_of : (ss : Scans) → length (one_behind_another 0 (units_in_scans ss)) ≡ unit_total ss
+pub unit_number_of : (ss : Scans) → length (end_to_end 0 (units_in_scans ss)) ≡ unit_total ss
 unit_number_of ss = length-placed 0 (units_in_scans ss) ∙ length-units ss
 
 -- ---- names
@@ -171,7 +171,7 @@ merges_all gs first left count ss g none =
 IsWord : ℕ → Name × ℕ → Type 0
 IsWord limit p = All (λ (c : ℕ). c ≢ 0) p.0 × (unit_number p.1 < limit)
 
-number_fits : (unit flag limit : ℕ) → unit < limit → limit ≤ 2 ^ 24 → unit_number (word_of unit flag) < limit
+number_fits : (unit flag limit : ℕ) → unit < limit → limit ≤ 2 ^ 24 → unit_number (element_of unit flag) < limit
 number_fits unit flag limit l few = omega arith
 
 marks_words : (first units limit : ℕ) (n : Name) (ms : List Mark) → All (λ (c : ℕ). c ≢ 0) n → AllByRecursion (λ (m : Mark). m.unit < units) ms → first + units ≤ limit → limit ≤ 2 ^ 24 → AllByRecursion (IsWord limit) (words_at first (n, ms))
@@ -220,7 +220,7 @@ index_names limit ps (m ∷ fs) (n ∷ ns) h clean some fit small = (
   index_names limit ps fs ns h.3 clean.1 some.1 fit small.1,
 )
 
-pub sound_merge : (ss : Scans) (us : List CuBoundary) (ns : List Named) (placed : ℕ) (counts : List ℕ) → us ≡ one_behind_another 0 (units_in_scans ss) → counts ≡ unit_counts ss → unit_total ss ≤ 2 ^ 24 → AllByRecursion HasSoundNames ss → AreSorted (groups (words_from 0 ss)) ns → HaveSmallWords ns → IsSound (record { units = us; names = ns; placed = placed; unit_counts = counts })
+pub sound_merge : (ss : Scans) (us : List CuBoundary) (ns : List Named) (placed : ℕ) (counts : List ℕ) → us ≡ end_to_end 0 (units_in_scans ss) → counts ≡ unit_counts ss → unit_total ss ≤ 2 ^ 24 → AllByRecursion HasSoundNames ss → AreSorted (groups (words_from 0 ss)) ns → HaveSmallWords ns → IsWellFormedScan (record { units = us; names = ns; placed = placed; unit_counts = counts })
 sound_merge ss us ns placed counts units listed few sound sorted small =
     let total : length us ≡ unit_total ss = ap length units ∙ unit_number_of ss in
     let ps = words_from 0 ss in

@@ -3,7 +3,7 @@ use Rattle.std.proofs.Common.{◌≡◌, ℕ, ◌+◌, List, [], ◌∷◌, ◌+
 use Rattle.std.specs.List.{flat_map}
 use Rattle.std.proofs.lemmas.List.{map-append}
 use Rattle.gdb_index_format.specs.declared.unit.CuBoundary.{CuBoundary}
-use Rattle.gdb_index_format.specs.Hash.{word_of}
+use Rattle.gdb_index_format.specs.Hash.{element_of}
 use Rattle.gdb_index_format.specs.Names.{Entry, NameSet}
 use Rattle.gdb_index_format.specs.Published.{Object, Pair, pairs_at, pairs_of, published_from}
 use Rattle.gdb_sections.specs.UnitSearch.{unit_at}
@@ -33,7 +33,7 @@ words_ungrouped first (g ∷ gs) =
 
 entries_published : (first place : ℕ) (es : List Entry) → as_pairs (pairs_at (Some place) first es) ≡ mapped (mark_word first) (marks_at (Some place) es)
 entries_published first place [] = refl
-entries_published first place (e ∷ es) = ap (λ ps. (e.name, word_of (first + place) e.flag) ∷ ps) (entries_published first place es)
+entries_published first place (e ∷ es) = ap (λ ps. (e.name, element_of (first + place) e.flag) ∷ ps) (entries_published first place es)
 
 set_published : (first : ℕ) (o : Option ℕ) (es : List Entry) → as_pairs (pairs_at o first es) ≡ mapped (mark_word first) (marks_at o es)
 set_published first None es = refl

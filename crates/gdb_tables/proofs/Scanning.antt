@@ -17,8 +17,8 @@ use Rattle.gdb_tables.specs.declared.error.GdbError.{GdbError}
 use Rattle.gdb_tables.specs.Cause.{IsScanCause}
 use Rattle.gdb_tables.specs.PlacedIn.{NameSections, of_object, is_counted, placed_in}
 use Rattle.gdb_tables.specs.Scan.{ObjectScan, IsScanOf, AreScansOf, placed_in_scan, placed_total}
-use Rattle.gdb_tables.specs.Scanned.{ScansObject, HasRoom}
-use Rattle.gdb_tables.specs.Files.{bytes_of, IsThere, ArePlacedIn, ArePlain, ScansObjects, FirstBadObject}
+use Rattle.gdb_tables.specs.Scanned.{ScansObject, HasHeaderRoom}
+use Rattle.gdb_tables.specs.Files.{file_bytes, IsThere, ArePlacedIn, ArePlain, ScansObjects, FirstBadObject}
 
 -- how many placements count, object by object
 abbrev pub placed_from : Class → ℕ → List (List ℕ) → List Object → List Placement → ℕ
@@ -70,7 +70,7 @@ total_push : (ss : List (Option ObjectScan)) (s : Option ObjectScan) → placed_
 total_push [] s = omega (arith, sum_by-cons (λ (x : ℕ). x) (placed_in_scan s) [])
 total_push (x ∷ ss) s = omega (arith, total_push ss s, sum_by-cons (λ (x : ℕ). x) (placed_in_scan x) (map placed_in_scan (ss ++ s ∷ [])), sum_by-cons (λ (x : ℕ). x) (placed_in_scan x) (map placed_in_scan ss))
 
-placed_short : (c : Class) (file : List ℕ) (object : ℕ) (ps : List Placement) (o : Object) (s : Option ObjectScan) → length file < 2 ^ 39 → placed_in c file object ps ≤ length (sections c file) → placed_in_scan s ≡ cond (has_unit o.units) (placed_in c file object ps) 0 → HasRoom c file s → placed_in_scan s ≤ 2 ^ 39
+placed_short : (c : Class) (file : List ℕ) (object : ℕ) (ps : List Placement) (o : Object) (s : Option ObjectScan) → length file < 2 ^ 39 → placed_in c file object ps ≤ length (sections c file) → placed_in_scan s ≡ cond (has_unit o.units) (placed_in c file object ps) 0 → HasHeaderRoom c file s → placed_in_scan s ≤ 2 ^ 39
 placed_short c file object ps o None short own is room = omega arith
 placed_short c file object ps o (Some s) short own is room = omega (arith, is, at_most (has_unit o.units) (placed_in c file object ps)) where
   at_most : (b : Bool) (n : ℕ) → cond b n 0 ≤ n
@@ -179,25 +179,25 @@ scans_objects c files ps scans h = record { objects = h.objects; held = h.held; 
 
 -- ---- the files one by one
 
-pub take_next : (files : List Parsed) (i : ℕ) (f : Parsed) → i < length files → f ≡ get_or files i f → take (i + 1) (bytes_of files) ≡ take i (bytes_of files) ++ f.bytes ∷ []
+pub take_next : (files : List Parsed) (i : ℕ) (f : Parsed) → i < length files → f ≡ get_or files i f → take (i + 1) (file_bytes files) ≡ take i (file_bytes files) ++ f.bytes ∷ []
 take_next [] i f l is = absurd (omega arith)
 take_next (x ∷ files) zero f l is = ap (λ (y : Parsed). y.bytes ∷ []) (sym is)
 take_next (x ∷ files) (suc i) f l is =
     let more : suc i + 1 ≡ suc (i + 1) = omega arith in
-    ap (λ n. take n (bytes_of (x ∷ files))) more ∙ ap (λ l. x.bytes ∷ l) (take_next files i f (omega arith) is)
+    ap (λ n. take n (file_bytes (x ∷ files))) more ∙ ap (λ l. x.bytes ∷ l) (take_next files i f (omega arith) is)
 
-pub take_all_files : (files : List Parsed) (i : ℕ) → length files ≤ i → take i (bytes_of files) ≡ bytes_of files
+pub take_all_files : (files : List Parsed) (i : ℕ) → length files ≤ i → take i (file_bytes files) ≡ file_bytes files
 take_all_files [] zero le = refl
 take_all_files [] (suc i) le = refl
 take_all_files (x ∷ files) zero le = absurd (omega arith)
 take_all_files (x ∷ files) (suc i) le = ap (λ l. x.bytes ∷ l) (take_all_files files i (omega arith))
 
-pub file_at : (files : List Parsed) (i : ℕ) (f : Parsed) → i < length files → f ≡ get_or files i f → slice_get (bytes_of files) i ≡ Some f.bytes
+pub file_at : (files : List Parsed) (i : ℕ) (f : Parsed) → i < length files → f ≡ get_or files i f → slice_get (file_bytes files) i ≡ Some f.bytes
 file_at [] i f l is = absurd (omega arith)
 file_at (x ∷ files) zero f l is = ap (λ (y : Parsed). Some y.bytes) (sym is)
 file_at (x ∷ files) (suc i) f l is = file_at files i f (omega arith) is
 
-pub taken_length : (files : List Parsed) (i : ℕ) → i ≤ length files → i ≡ length (take i (bytes_of files))
+pub taken_length : (files : List Parsed) (i : ℕ) → i ≤ length files → i ≡ length (take i (file_bytes files))
 taken_length files zero le = refl
 taken_length [] (suc i) le = absurd (omega arith)
 taken_length (x ∷ files) (suc i) le = ap suc (taken_length files i (omega arith))

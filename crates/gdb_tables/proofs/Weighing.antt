@@ -9,10 +9,10 @@ use Rattle.elf_format.specs.Section.{sections}
 use Rattle.gdb_index_format.specs.declared.dwarf_format.DwarfFormat.{DwarfFormat}
 use Rattle.gdb_index_format.specs.declared.unit.CuBoundary.{CuBoundary}
 use Rattle.gdb_index_format.specs.Names.{Entry, NameSet, width, number, initial_length, IsEntries, IsSet, IsSetList}
-use Rattle.gdb_index_format.specs.Objects.{is_names_section, names_sections, AreSetsOfSections, AreSetsBeside, IsObjectOf}
+use Rattle.gdb_index_format.specs.Objects.{is_pubnames_section, pubnames_sections, AreSetsOfSections, AreSetsBeside, IsObjectOf}
 use Rattle.gdb_index_format.specs.Published.{Object, Pair, pairs_at, pairs_of, published_from}
 use Rattle.gdb_tables.specs.Scan.{ObjectScan, IsScanOf}
-use Rattle.gdb_tables.specs.Scanned.{HasRoom}
+use Rattle.gdb_tables.specs.Scanned.{HasHeaderRoom}
 use Rattle.gdb_tables.proofs.Sounding.{section_short, filter_le}
 
 abbrev entry_weight : Entry → ℕ
@@ -53,17 +53,17 @@ length-enumerated : (at : ℕ) (xs : List (List ℕ)) → length (enumerate_from
 length-enumerated at [] = refl
 length-enumerated at (x ∷ xs) = ap suc (length-enumerated (at + 1) xs)
 
-names_few : (c : Class) (file : List ℕ) → length (names_sections c file) ≤ length (sections c file)
-names_few c file = omega (arith, filter_le (λ (s : ℕ × List ℕ). is_names_section c file s.1) (enumerate_from 0 (sections c file)), length-enumerated 0 (sections c file))
+names_few : (c : Class) (file : List ℕ) → length (pubnames_sections c file) ≤ length (sections c file)
+names_few c file = omega (arith, filter_le (λ (s : ℕ × List ℕ). is_pubnames_section c file s.1) (enumerate_from 0 (sections c file)), length-enumerated 0 (sections c file))
 
 beside_short : (c : Class) (file : List ℕ) (us : List CuBoundary) (ss : List NameSet) → length file < 2 ^ 39 → 40 * length (sections c file) ≤ length file → AreSetsBeside c file us ss → sets_weight ss ≤ 2 ^ 73
 beside_short c file [] ss small room none = omega (arith, ap sets_weight none)
-beside_short c file (u ∷ us) ss small room sets = omega (arith, names_few c file, sections_short c file (names_sections c file) ss small sets)
+beside_short c file (u ∷ us) ss small room sets = omega (arith, names_few c file, sections_short c file (pubnames_sections c file) ss small sets)
 
 without_unit : (c : Class) (file : List ℕ) (us : List CuBoundary) (ss : List NameSet) → us ≡ [] → AreSetsBeside c file us ss → sets_weight ss ≤ 2 ^ 73
 without_unit c file us ss none sets = omega (arith, ap sets_weight (subst (λ (x : List CuBoundary). AreSetsBeside c file x ss) none sets))
 
-pub object_weight : (c : Class) (file : List ℕ) (o : Object) (s : Option ObjectScan) → length file < 2 ^ 39 → IsObjectOf c file o → IsScanOf o s → HasRoom c file s → sets_weight o.sets ≤ 2 ^ 73
+pub object_weight : (c : Class) (file : List ℕ) (o : Object) (s : Option ObjectScan) → length file < 2 ^ 39 → IsObjectOf c file o → IsScanOf o s → HasHeaderRoom c file s → sets_weight o.sets ≤ 2 ^ 73
 object_weight c file o None small is none room = without_unit c file o.units o.sets none is.sets
 object_weight c file o (Some s) small is scan room = beside_short c file o.units o.sets small room is.sets
 
@@ -73,7 +73,7 @@ weight_push os o = sum_by-append (λ (x : Object). sets_weight x.sets) os (o ∷
 pairs_short : (o : Option ℕ) (first : ℕ) (es : List Entry) → sum_by pair_weight (pairs_at o first es) ≤ sum_by entry_weight es
 pairs_short None first es = omega arith
 pairs_short (Some place) first [] = omega arith
-pairs_short (Some place) first (e ∷ es) = omega (arith, sum_by-cons entry_weight e es, sum_by-cons pair_weight (record { name = e.name; word = Rattle.gdb_index_format.specs.Hash.word_of (first + place) e.flag }) (pairs_at (Some place) first es), pairs_short (Some place) first es)
+pairs_short (Some place) first (e ∷ es) = omega (arith, sum_by-cons entry_weight e es, sum_by-cons pair_weight (record { name = e.name; word = Rattle.gdb_index_format.specs.Hash.element_of (first + place) e.flag }) (pairs_at (Some place) first es), pairs_short (Some place) first es)
 
 sets_publish : (first : ℕ) (us : List CuBoundary) (ss : List NameSet) → sum_by pair_weight (flat_map (pairs_of first us) ss) ≤ sets_weight ss
 sets_publish first us [] = omega arith

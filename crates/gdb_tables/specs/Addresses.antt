@@ -18,7 +18,7 @@ use Rattle.gdb_addresses.specs.declared.error.MapError.TheVariants.{Elf}
 use Rattle.gdb_addresses.specs.declared.error.MapError.TheVariants as maps
 use Rattle.gdb_tables.specs.declared.error.GdbError.{GdbError}
 use Rattle.gdb_tables.specs.declared.error.GdbError.TheVariants.{BadElf, CompressedSection, BadUnit, BadPubnames, TooManyUnits, IndexTooLarge, NoMemory}
-use Rattle.gdb_tables.specs.Files.{bytes_of}
+use Rattle.gdb_tables.specs.Files.{file_bytes}
 use Rattle.gdb_tables.specs.PlacedIn.{is_counted}
 
 -- the unit of a section of an object, by its place among the object's units
@@ -37,7 +37,7 @@ address_entry c files os p = record { low = p.address; high = p.address + p.size
 
 -- one for each placement that counts and has an address, in the order of the placements
 abbrev pub addresses : Class → List Parsed → List Object → List Placement → List AddressEntry
-addresses c files os ps = map (address_entry c files os) (filter (λ p. nat_lt 0 p.address) (placed c (bytes_of files) os ps))
+addresses c files os ps = map (address_entry c files os) (filter (λ p. nat_lt 0 p.address) (placed c (file_bytes files) os ps))
 
 -- of some objects, of which the first has the number `object`: the first with two units or more whose relocations
 -- are at fault, and the fault

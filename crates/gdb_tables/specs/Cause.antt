@@ -8,7 +8,7 @@ use Rattle.gdb_index_format.specs.declared.unit.CuBoundary.{CuBoundary}
 use Rattle.gdb_index_format.specs.declared.unit.UnitFault.TheVariants as faults
 use Rattle.gdb_index_format.specs.Units.{FailsAt}
 use Rattle.gdb_index_format.specs.Names.{NameSet, IsSetList}
-use Rattle.gdb_index_format.specs.Objects.{info_bytes, names_sections, first_compressed, IsUnitsOf, AreSetsOfSections}
+use Rattle.gdb_index_format.specs.Objects.{info_bytes, pubnames_sections, first_compressed, IsUnitsOf, AreSetsOfSections}
 use Rattle.gdb_sections.specs.declared.units.UnitError.{UnitError}
 use Rattle.gdb_sections.specs.declared.units.UnitError.TheVariants as units
 use Rattle.gdb_sections.specs.declared.set_error.SetError.{SetError}
@@ -64,7 +64,7 @@ pub record FirstBadSection (c : Class) (object : ℕ) (file : List ℕ) (section
 
 -- why the names of an object are not read
 abbrev pub IsNamesCause : Class → ℕ → List ℕ → GdbError → Type 0
-IsNamesCause c object file e = FirstBadSection c object file (names_sections c file) e
+IsNamesCause c object file e = FirstBadSection c object file (pubnames_sections c file) e
 
 -- An object with a unit whose names are not read.
 pub record FailsInNames (c : Class) (object : ℕ) (file : List ℕ) (e : GdbError) : Type 0 where

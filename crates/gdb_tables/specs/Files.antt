@@ -14,8 +14,8 @@ use Rattle.gdb_tables.specs.Cause.{IsScanCause}
 use Rattle.gdb_tables.specs.PlacedIn.{ArePlacements}
 use Rattle.gdb_tables.specs.Scan.{ObjectScan, AreScansOf, placed_total}
 
-abbrev pub bytes_of : List Parsed → List (List ℕ)
-bytes_of files = map (λ f. f.bytes) files
+abbrev pub file_bytes : List Parsed → List (List ℕ)
+file_bytes files = map (λ f. f.bytes) files
 
 -- a section of an object that is there
 abbrev pub IsThere : Class → Option (List ℕ) → ℕ → Type 0

@@ -4,7 +4,7 @@ use Rattle.std.specs.List.{All}
 use Rattle.elf_format.specs.Class.{Class}
 use Rattle.gdb_index_format.specs.declared.unit.CuBoundary.{CuBoundary}
 use Rattle.gdb_index_format.specs.Names.{NameSet}
-use Rattle.gdb_index_format.specs.Objects.{names_sections, AreSetsOfSections}
+use Rattle.gdb_index_format.specs.Objects.{pubnames_sections, AreSetsOfSections}
 use Rattle.gdb_sections.specs.Clean.{IsClean}
 use Rattle.gdb_tables.specs.declared.mark.Mark.{Mark}
 use Rattle.gdb_tables.specs.Groups.{add_all}
@@ -19,4 +19,4 @@ pub record Gathers (c : Class) (file : List ℕ) (us : List CuBoundary) (section
 
 -- the same of all names sections of an object
 abbrev pub GathersNames : Class → List ℕ → List CuBoundary → List (List ℕ × List Mark) → Type 0
-GathersNames c file us names = Gathers c file us (names_sections c file) names
+GathersNames c file us names = Gathers c file us (pubnames_sections c file) names

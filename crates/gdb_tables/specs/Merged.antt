@@ -4,7 +4,7 @@ use Rattle.std.specs.List.{All}
 use Rattle.std.specs.List.Sorted.{IsPermutation, IsNonDecreasing}
 use Rattle.gdb_index.specs.Scan.{Scan}
 use Rattle.gdb_index_format.specs.Named.{Named, ListsPublished}
-use Rattle.gdb_index_format.specs.Published.{one_behind_another}
+use Rattle.gdb_index_format.specs.Published.{end_to_end}
 use Rattle.gdb_tables.specs.declared.error.GdbError.{GdbError}
 use Rattle.gdb_tables.specs.declared.error.GdbError.TheVariants.{BadElf, CompressedSection, BadUnit, BadPubnames, TooManyUnits, IndexTooLarge, NoMemory}
 use Rattle.gdb_tables.specs.Scan.{ObjectScan, unit_counts, unit_total, units_in_scans, placed_total, published_in_scans}
@@ -23,7 +23,7 @@ HaveSmallWords ns = All (λ n. All (λ w. w < 2 ^ 32) n.words) ns
 -- The units of all scans, one behind another, their names and words, and their counts.
 pub record IsMergeOf (ss : List (Option ObjectScan)) (merged : Scan) : Type 0 where
   pub few : unit_total ss ≤ 2 ^ 24
-  pub units : merged.units ≡ one_behind_another 0 (units_in_scans ss)
+  pub units : merged.units ≡ end_to_end 0 (units_in_scans ss)
   pub counts : merged.unit_counts ≡ unit_counts ss
   pub placed : merged.placed ≡ placed_total ss
   pub names : ListsPublished (published_in_scans ss) merged.names

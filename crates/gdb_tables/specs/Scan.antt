@@ -2,7 +2,7 @@
 use Rattle.std.specs.Prelude.{◌≡◌, ◌≢◌, ℕ, ◌+◌, ◌*◌, ◌^◌, ◌<◌, ◌≤◌, List, [], ◌∷◌, ◌++◌, map, length, sum, Option, Some, None}
 use Rattle.std.specs.List.{All, AllByRecursion, flat_map}
 use Rattle.gdb_index_format.specs.declared.unit.CuBoundary.{CuBoundary}
-use Rattle.gdb_index_format.specs.Hash.{word_of}
+use Rattle.gdb_index_format.specs.Hash.{element_of}
 use Rattle.gdb_index_format.specs.Units.{total_length}
 use Rattle.gdb_index_format.specs.Published.{Object, Pair}
 use Rattle.gdb_tables.specs.declared.mark.Mark.{Mark}
@@ -61,7 +61,7 @@ HasSoundNames s = AllByRecursion (IsObjectName (length (units_in_scan s))) (name
 
 -- the word of a mark, where the object's first unit has the number `first`
 abbrev pub mark_word : ℕ → Mark → ℕ
-mark_word first m = word_of (first + m.unit) m.flag
+mark_word first m = element_of (first + m.unit) m.flag
 
 abbrev pub words_at : ℕ → List ℕ × List Mark → List (List ℕ × ℕ)
 words_at first g = map (λ m. (g.0, mark_word first m)) g.1

@@ -10,9 +10,9 @@ use Rattle.gdb_tables.specs.PlacedIn.{placed_in}
 use Rattle.gdb_tables.specs.Scan.{ObjectScan, IsScanOf, placed_in_scan}
 
 -- an object with a unit has room for its section headers, of at least 40 bytes each
-abbrev pub HasRoom : Class → List ℕ → Option ObjectScan → Type 0
-HasRoom c file None = Unit {0}
-HasRoom c file (Some s) = 40 * length (sections c file) ≤ length file
+abbrev pub HasHeaderRoom : Class → List ℕ → Option ObjectScan → Type 0
+HasHeaderRoom c file None = Unit {0}
+HasHeaderRoom c file (Some s) = 40 * length (sections c file) ≤ length file
 
 -- None of the sections that are read is compressed, and the scan has what the object holds.
 pub record ScansObject (c : Class) (file : List ℕ) (object : ℕ) (ps : List Placement) (scan : Option ObjectScan) : Type 0 where
@@ -21,4 +21,4 @@ pub record ScansObject (c : Class) (file : List ℕ) (object : ℕ) (ps : List P
   pub plain : first_compressed c file ≡ None
   pub is_scan : IsScanOf held scan
   pub placed : placed_in_scan scan ≡ cond (has_unit held.units) (placed_in c file object ps) 0
-  pub room : HasRoom c file scan
+  pub room : HasHeaderRoom c file scan

@@ -10,7 +10,7 @@ ghost use Rattle.gdb_index_format.specs.Objects.{IsUnitsOf, AreObjectsOf};
 ghost use Rattle.gdb_index_format.specs.Placed.{placed};
 ghost use Rattle.gdb_index_format.specs.Published.{Object};
 ghost use Rattle.gdb_tables.specs.Addresses.{addresses, first_relocation_fault, of_map_error, entry_at, entries_at, entries_of, unit_told, IsEntriesCause, IsAddressCause};
-ghost use Rattle.gdb_tables.specs.Files.{bytes_of, ArePlacedIn};
+ghost use Rattle.gdb_tables.specs.Files.{file_bytes, ArePlacedIn};
 ghost use Rattle.gdb_tables.specs.PlacedIn.{ArePlacements, of_object};
 ghost use Rattle.gdb_tables.specs.Sized.{IsScanOfAll};
 
@@ -160,12 +160,12 @@ pub fn build_address_entries<C: ElfClass>(
 ) -> Result<Vec<AddressEntry>, GdbError>
     requires few { length files.now < 2 ^ 24 }
     requires small { All (λ file. length file.bytes < 2 ^ 39) files.now }
-    requires placements { ArePlacedIn C.class (bytes_of files.now) placements.now }
-    requires scanned { (os : List Object) × AreObjectsOf C.class (bytes_of files.now) os × IsScanOfAll os (length (placed C.class (bytes_of files.now) os placements.now)) scan.now }
-    ensures entries { IfOk result (λ v. (os : List Object) → AreObjectsOf C.class (bytes_of files.now) os → v.items ≡ addresses C.class files.now os placements.now) }
-    ensures sound { OnOk result ((os : List Object) → AreObjectsOf C.class (bytes_of files.now) os → first_relocation_fault C.class files.now os ≡ None) }
+    requires placements { ArePlacedIn C.class (file_bytes files.now) placements.now }
+    requires scanned { (os : List Object) × AreObjectsOf C.class (file_bytes files.now) os × IsScanOfAll os (length (placed C.class (file_bytes files.now) os placements.now)) scan.now }
+    ensures entries { IfOk result (λ v. (os : List Object) → AreObjectsOf C.class (file_bytes files.now) os → v.items ≡ addresses C.class files.now os placements.now) }
+    ensures sound { OnOk result ((os : List Object) → AreObjectsOf C.class (file_bytes files.now) os → first_relocation_fault C.class files.now os ≡ None) }
     ensures few { IfOk result (λ v. length v.items ≤ scan.now.placed) }
-    ensures cause { IfErr result (λ e. (os : List Object) → AreObjectsOf C.class (bytes_of files.now) os → IsAddressCause (first_relocation_fault C.class files.now os) e) }
+    ensures cause { IfErr result (λ e. (os : List Object) → AreObjectsOf C.class (file_bytes files.now) os → IsAddressCause (first_relocation_fault C.class files.now os) e) }
 {
     let counts = scan.unit_counts();
     let mut entries = Vec::new(alloc);

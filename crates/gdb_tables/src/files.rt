@@ -7,7 +7,7 @@ ghost use Rattle.gdb_index_format.specs.Objects.{AreObjectsOf};
 ghost use Rattle.gdb_tables.specs.declared.error.GdbError.{GdbError as GdbError_spec};
 ghost use Rattle.gdb_tables.specs.declared.error.GdbError.TheVariants.{NoMemory};
 ghost use Rattle.gdb_tables.specs.Cause.{IsRefusedFor, IsOnlyMemory};
-ghost use Rattle.gdb_tables.specs.Files.{bytes_of, ArePlain, ArePlacedIn, ScansObjects, IsFilesCause};
+ghost use Rattle.gdb_tables.specs.Files.{file_bytes, ArePlain, ArePlacedIn, ScansObjects, IsFilesCause};
 
 use crate::error::GdbError;
 use crate::object_scan::PerObjectScan;
@@ -28,11 +28,11 @@ pub fn scan_objects<'a, C: ElfClass>(
     placements: &[Placement],
 ) -> Result<Vec<Option<PerObjectScan<'a>>>, GdbError>
     requires small { All (λ file. length file.bytes < 2 ^ 39) files.now }
-    requires placements { ArePlacedIn C.class (bytes_of files.now) placements.now }
-    ensures scans { IfOk result (λ scans. ScansObjects C.class (bytes_of files.now) placements.now scans.items) }
-    ensures cause { IfErr result (IsFilesCause C.class (bytes_of files.now)) }
-    ensures exact { (e : GdbError_spec) → IsFilesCause C.class (bytes_of files.now) e → e ≢ NoMemory → IsRefusedFor result e }
-    ensures complete { (os : List Object) → AreObjectsOf C.class (bytes_of files.now) os → ArePlain C.class (bytes_of files.now) → IfErr result IsOnlyMemory }
+    requires placements { ArePlacedIn C.class (file_bytes files.now) placements.now }
+    ensures scans { IfOk result (λ scans. ScansObjects C.class (file_bytes files.now) placements.now scans.items) }
+    ensures cause { IfErr result (IsFilesCause C.class (file_bytes files.now)) }
+    ensures exact { (e : GdbError_spec) → IsFilesCause C.class (file_bytes files.now) e → e ≢ NoMemory → IsRefusedFor result e }
+    ensures complete { (os : List Object) → AreObjectsOf C.class (file_bytes files.now) os → ArePlain C.class (file_bytes files.now) → IfErr result IsOnlyMemory }
 {
     let mut scans = Vec::with_capacity(alloc, files.len())?;
     for (object, file) in files.iter().enumerate() {

@@ -5,7 +5,7 @@ ghost use Rattle.std.specs.Prelude.{◌≡◌, ℕ, List, ◌+◌, ◌*◌, ◌^
 ghost use Rattle.std.specs.List.{All, AllByRecursion};
 ghost use Rattle.std.specs.List.Sorted.{IsPermutation, IsNonDecreasing};
 ghost use Rattle.gdb_index_format.specs.Named.{all_named, ListsPublished};
-ghost use Rattle.gdb_index_format.specs.Published.{Object, published, one_behind_another};
+ghost use Rattle.gdb_index_format.specs.Published.{Object, published, end_to_end};
 ghost use Rattle.gdb_index_format.specs.Units.{total_length};
 ghost use Rattle.gdb_tables.specs.Groups.{shown, groups, add_all};
 ghost use Rattle.gdb_tables.specs.Marks.{groups_in};
@@ -97,7 +97,7 @@ fn list_unit_counts(
 /// Adds an object's units from a place on, and says where they end.
 fn place_units(units: &mut Vec<CuBoundary>, at: u64, list: &[CuBoundary]) -> Result<u64, AllocError>
     requires { at + total_length list.now < 2 ^ 64 }
-    ensures units { OnOk result (units.new.items ≡ units.old.items ++ one_behind_another at list.now) }
+    ensures units { OnOk result (units.new.items ≡ units.old.items ++ end_to_end at list.now) }
     ensures end { IfOk result (λ end. end ≡ at + total_length list.now) }
 {
     let mut place = at;
@@ -118,7 +118,7 @@ fn placed_units(
     count: usize,
 ) -> Result<Vec<CuBoundary>, AllocError>
     requires { length scans.now < 2 ^ 24 }
-    ensures { IfOk result (λ units. units.items ≡ one_behind_another 0 (units_in_scans scans.now)) }
+    ensures { IfOk result (λ units. units.items ≡ end_to_end 0 (units_in_scans scans.now)) }
 {
     let mut units = Vec::with_capacity(alloc, count)?;
     let mut place = 0;

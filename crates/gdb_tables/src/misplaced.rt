@@ -4,7 +4,7 @@
 ghost use Rattle.std.specs.Prelude.{◌≡◌, ℕ, List, None, slice_get};
 ghost use Rattle.elf_format.specs.Class.{Class};
 ghost use Rattle.gdb_index_format.specs.declared.placement.Placement.{Placement as Placement_spec};
-ghost use Rattle.gdb_tables.specs.Files.{bytes_of, ArePlacedIn};
+ghost use Rattle.gdb_tables.specs.Files.{file_bytes, ArePlacedIn};
 ghost use Rattle.gdb_tables.specs.Misplaced.{is_behind, is_there, is_in_place, misplaced};
 
 use elf_view::File;
@@ -24,7 +24,7 @@ fn is_behind(before: Option<Placement>, placement: &Placement) -> bool
 
 /// Whether the section of a placement is there.
 fn is_there<C: ElfClass>(files: &[File<'_, C>], placement: &Placement) -> bool
-    ensures { result ≡ Rattle.gdb_tables.specs.Misplaced.is_there C.class (slice_get (bytes_of files.now) placement.now.object) placement.now.section }
+    ensures { result ≡ Rattle.gdb_tables.specs.Misplaced.is_there C.class (slice_get (file_bytes files.now) placement.now.object) placement.now.section }
 {
     match files.get(placement.object) {
         Some(file) => placement.section < file.num_sections(),
@@ -38,7 +38,7 @@ fn is_in_place<C: ElfClass>(
     before: Option<Placement>,
     placement: &Placement,
 ) -> bool
-    ensures { result ≡ Rattle.gdb_tables.specs.Misplaced.is_in_place C.class (bytes_of files.now) (before, placement.now) }
+    ensures { result ≡ Rattle.gdb_tables.specs.Misplaced.is_in_place C.class (file_bytes files.now) (before, placement.now) }
 {
     is_behind(before, placement)
         && is_there(files, placement)
@@ -52,8 +52,8 @@ pub fn first_misplaced<C: ElfClass>(
     files: &[File<'_, C>],
     placements: &[Placement],
 ) -> Option<usize>
-    ensures first { result ≡ misplaced C.class (bytes_of files.now) placements.now }
-    ensures none { result ≡ None → ArePlacedIn C.class (bytes_of files.now) placements.now }
+    ensures first { result ≡ misplaced C.class (file_bytes files.now) placements.now }
+    ensures none { result ≡ None → ArePlacedIn C.class (file_bytes files.now) placements.now }
 {
     let mut before = None;
     for (index, placement) in placements.iter().enumerate() {

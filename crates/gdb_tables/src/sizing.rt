@@ -2,11 +2,11 @@
 
 ghost use Rattle.std.specs.Prelude.{◌≢◌, ◌^◌, ◌<◌, length, IfOk, IfErr, IfSome, OnOk};
 ghost use Rattle.std.specs.List.{All};
-ghost use Rattle.gdb_index.specs.Size.{IsIndexSize, counts_of};
+ghost use Rattle.gdb_index.specs.Size.{IsIndexSize, scan_counts};
 ghost use Rattle.gdb_tables.specs.declared.error.GdbError.{GdbError as GdbError_spec};
 ghost use Rattle.gdb_tables.specs.declared.error.GdbError.TheVariants.{NoMemory};
 ghost use Rattle.gdb_tables.specs.Cause.{IsRefusedFor, IsOnlyMemory};
-ghost use Rattle.gdb_tables.specs.Files.{bytes_of, ArePlacedIn};
+ghost use Rattle.gdb_tables.specs.Files.{file_bytes, ArePlacedIn};
 ghost use Rattle.gdb_tables.specs.Sized.{SizesIndex, IsIndexable, IsSizeCause};
 
 use crate::error::GdbError;
@@ -35,13 +35,13 @@ pub fn compute_gdb_index_size<'a, C: ElfClass>(
 ) -> Result<(u32, Option<GdbIndexScanResult<'a>>), GdbError>
     requires few { length files.now < 2 ^ 24 }
     requires small { All (λ file. length file.bytes < 2 ^ 39) files.now }
-    requires placements { ArePlacedIn C.class (bytes_of files.now) placements.now }
-    ensures size { IfOk result (λ sized. SizesIndex INDEX_VERSION C.class (bytes_of files.now) placements.now sized.0 sized.1) }
-    ensures room { IfOk result (λ sized. IfSome sized.1 (λ scan. IsIndexSize INDEX_VERSION (counts_of scan) sized.0)) }
-    ensures indexable { OnOk result (IsIndexable INDEX_VERSION C.class (bytes_of files.now) placements.now) }
-    ensures cause { IfErr result (IsSizeCause INDEX_VERSION C.class (bytes_of files.now) placements.now) }
-    ensures exact { (e : GdbError_spec) → IsSizeCause INDEX_VERSION C.class (bytes_of files.now) placements.now e → e ≢ NoMemory → IsRefusedFor result e }
-    ensures complete { IsIndexable INDEX_VERSION C.class (bytes_of files.now) placements.now → IfErr result IsOnlyMemory }
+    requires placements { ArePlacedIn C.class (file_bytes files.now) placements.now }
+    ensures size { IfOk result (λ sized. SizesIndex INDEX_VERSION C.class (file_bytes files.now) placements.now sized.0 sized.1) }
+    ensures room { IfOk result (λ sized. IfSome sized.1 (λ scan. IsIndexSize INDEX_VERSION (scan_counts scan) sized.0)) }
+    ensures indexable { OnOk result (IsIndexable INDEX_VERSION C.class (file_bytes files.now) placements.now) }
+    ensures cause { IfErr result (IsSizeCause INDEX_VERSION C.class (file_bytes files.now) placements.now) }
+    ensures exact { (e : GdbError_spec) → IsSizeCause INDEX_VERSION C.class (file_bytes files.now) placements.now e → e ≢ NoMemory → IsRefusedFor result e }
+    ensures complete { IsIndexable INDEX_VERSION C.class (file_bytes files.now) placements.now → IfErr result IsOnlyMemory }
 {
     let scans = match scan_objects(alloc, files, placements) {
         Ok(scans) => scans,

@@ -4,7 +4,7 @@ use Rattle.std.proofs.Math.Seq.{drop-append_seam, take-append_seam}
 use Rattle.std.proofs.lemmas.List.{append-nil}
 use Rattle.std.proofs.lemmas.List.Elements.{All-nil, All-cons}
 use Rattle.elf_format.specs.declared.index.Span.{Span}
-use Rattle.elf_format.specs.Span.{IsInside, AreInside, bytes_of}
+use Rattle.elf_format.specs.Span.{IsInside, AreInside, span_bytes}
 use Rattle.program_files.specs.Joined.{joined, spans_from}
 
 pub joined-push : (texts : List (List ℕ)) (bytes : List ℕ) → joined (texts ++ bytes ∷ []) ≡ joined texts ++ bytes
@@ -34,15 +34,15 @@ cut_out front text rest =
     ∙ ap (λ (l : List ℕ). take (length text) l) (drop-append_seam front (text ++ rest))
     ∙ take-append_seam text rest
 
-behind : (front : List ℕ) (texts : List (List ℕ)) → map (bytes_of (front ++ joined texts)) (spans_from (length front) texts) ≡ texts
+behind : (front : List ℕ) (texts : List (List ℕ)) → map (span_bytes (front ++ joined texts)) (spans_from (length front) texts) ≡ texts
 behind front [] = refl
 behind front (text ∷ texts) =
-    ap (λ (t : List ℕ). t ∷ map (bytes_of (front ++ (text ++ joined texts))) (spans_from (length front + length text) texts)) (cut_out front text (joined texts))
-    ∙ ap (λ (l : List ℕ). text ∷ map (bytes_of l) (spans_from (length front + length text) texts)) (sym (append_assoc front text (joined texts)))
-    ∙ ap (λ n. text ∷ map (bytes_of (front ++ text ++ joined texts)) (spans_from n texts)) (sym (length-append front text))
+    ap (λ (t : List ℕ). t ∷ map (span_bytes (front ++ (text ++ joined texts))) (spans_from (length front + length text) texts)) (cut_out front text (joined texts))
+    ∙ ap (λ (l : List ℕ). text ∷ map (span_bytes l) (spans_from (length front + length text) texts)) (sym (append_assoc front text (joined texts)))
+    ∙ ap (λ n. text ∷ map (span_bytes (front ++ text ++ joined texts)) (spans_from n texts)) (sym (length-append front text))
     ∙ ap (λ (l : List (List ℕ)). text ∷ l) (behind (front ++ text) texts)
 
-pub texts_again : (texts : List (List ℕ)) → map (bytes_of (joined texts)) (spans_from 0 texts) ≡ texts
+pub texts_again : (texts : List (List ℕ)) → map (span_bytes (joined texts)) (spans_from 0 texts) ≡ texts
 texts_again texts = behind [] texts
 
 pub length-spans_from : (place : ℕ) (texts : List (List ℕ)) → length (spans_from place texts) ≡ length texts

@@ -4,7 +4,7 @@ use Rattle.program_io.specs.Contents.{Contents, file_of}
 use Rattle.program_text.specs.Command.{Tables, NamesFile, first_object}
 use Rattle.program_files.specs.declared.error.ReadError.{ReadError}
 use Rattle.elf_format.specs.declared.index.Span.{Span}
-use Rattle.elf_format.specs.Span.{AreInside, bytes_of}
+use Rattle.elf_format.specs.Span.{AreInside, span_bytes}
 use Rattle.program_files.specs.Joined.{joined}
 use Rattle.program_files.specs.Reading.{Held, Texts, file_limit, within, sframe_of, objects_of, texts_of, read_of, AreObjectsRead}
 use Rattle.program_files.proofs.JoinedLemmas.{texts_again, length-spans_from, spans_inside}
@@ -65,13 +65,13 @@ told_as None tables texts same is told = tt
 told_as (Some files) tables texts same is told = told ∙ is
 
 -- the objects' texts are what their spans cut out of the buffer
-texts_are : (held : Contents) (first : ℕ) (names : List (List ℕ)) (buffer : List ℕ) (spans : List Span) (read : AreObjectsRead held first names buffer spans) → map (bytes_of buffer) spans ≡ read.texts
+texts_are : (held : Contents) (first : ℕ) (names : List (List ℕ)) (buffer : List ℕ) (spans : List Span) (read : AreObjectsRead held first names buffer spans) → map (span_bytes buffer) spans ≡ read.texts
 texts_are held first names buffer spans read =
-    ap (λ (b : List ℕ). map (bytes_of b) spans) read.buffer_is
-    ∙ ap (λ (l : List Span). map (bytes_of (joined read.texts)) l) read.spans_are
+    ap (λ (b : List ℕ). map (span_bytes b) spans) read.buffer_is
+    ∙ ap (λ (l : List Span). map (span_bytes (joined read.texts)) l) read.spans_are
     ∙ texts_again read.texts
 
-pub all_read : (held held_then held_last : Contents) (tables : Tables) (first : ℕ) (layout bytes sframe buffer : List ℕ) (spans : List Span) → held_then ≡ held → held_last ≡ held_then → first ≡ first_object tables.sframe → layout ≡ bytes → IfSome held (λ files. within 2 file_limit (file_of files tables.layout) ≡ Ok bytes) → IfSome held_then (λ files. sframe_of files tables.sframe ≡ Ok sframe) → AreObjectsRead held_last first tables.objects buffer spans → IfSome held (λ files. read_of files tables ≡ Ok (record { layout = layout; sframe = sframe; objects = map (bytes_of buffer) spans }))
+pub all_read : (held held_then held_last : Contents) (tables : Tables) (first : ℕ) (layout bytes sframe buffer : List ℕ) (spans : List Span) → held_then ≡ held → held_last ≡ held_then → first ≡ first_object tables.sframe → layout ≡ bytes → IfSome held (λ files. within 2 file_limit (file_of files tables.layout) ≡ Ok bytes) → IfSome held_then (λ files. sframe_of files tables.sframe ≡ Ok sframe) → AreObjectsRead held_last first tables.objects buffer spans → IfSome held (λ files. read_of files tables ≡ Ok (record { layout = layout; sframe = sframe; objects = map (span_bytes buffer) spans }))
 all_read held held_then held_last tables first layout bytes sframe buffer spans same same_last first-is layout-is layout_is sframe_is read =
     told_as held tables _ _
     (ap (λ (l : List ℕ). let t : Result Texts ReadError = Ok (record { layout = l; sframe = sframe; objects = read.texts }) in t) (sym layout-is)

@@ -4,7 +4,7 @@ use Rattle.program_io.specs.Contents.{Contents, file_of}
 use Rattle.program_io.specs.Counting.{RoseBy}
 use Rattle.program_text.specs.Command.{Tables, first_object}
 use Rattle.elf_format.specs.declared.index.Span.{Span}
-use Rattle.elf_format.specs.Span.{bytes_of}
+use Rattle.elf_format.specs.Span.{span_bytes}
 use Rattle.program_files.specs.Joined.{joined, spans_from}
 use Rattle.program_files.specs.declared.error.ReadError.{ReadError}
 use Rattle.program_files.specs.declared.error.ReadError.TheVariants.{Unread, TooLong}
@@ -64,7 +64,7 @@ read_of held tables =
 
 -- the files that were read
 abbrev pub texts_read : FilesRead → Texts
-texts_read read = record { layout = read.layout.items; sframe = read.sframe.items; objects = map (bytes_of read.buffer.items) read.objects.items }
+texts_read read = record { layout = read.layout.items; sframe = read.sframe.items; objects = map (span_bytes read.buffer.items) read.objects.items }
 
 -- an object was read onto the end of the buffer, and its span was added
 pub record IsObjectRead (held : Contents) (place : ℕ) (name : List ℕ) (old new : List ℕ) (spans more : List Span) (taken now : ℕ) : Type 0 where

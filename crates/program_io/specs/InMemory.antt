@@ -30,11 +30,11 @@ abbrev pub is_listed : List ℕ → ℕ → Bool
 is_listed failing number = list_any (λ n. n == number) failing
 
 -- the fault of a read, by whether its call is listed, what its file holds, and the limit
-abbrev pub fault_of : Bool → Option (List ℕ) → ℕ → Option FileFault
-fault_of true file limit = Some Failed
-fault_of false None limit = Some Failed
-fault_of false (Some bytes) limit = if nat_lt limit (length bytes) then Some TooLong else None
+abbrev pub fault_of_read : Bool → Option (List ℕ) → ℕ → Option FileFault
+fault_of_read true file limit = Some Failed
+fault_of_read false None limit = Some Failed
+fault_of_read false (Some bytes) limit = if nat_lt limit (length bytes) then Some TooLong else None
 
 -- the fault of the next read, of this name, want of memory aside
 abbrev pub next_fault : FilesInMemory → List ℕ → ℕ → Option FileFault
-next_fault memory name limit = fault_of (is_listed memory.failing memory.calls) (file_of memory.files name) limit
+next_fault memory name limit = fault_of_read (is_listed memory.failing memory.calls) (file_of memory.files name) limit

@@ -43,7 +43,7 @@ header_bytes h =
     ++ to_le_bytes w32 h.fre_start_offset
 
 -- what parsing answers for a header of these fields
-abbrev pub IsParsed : Header → Result Header SframeError → Type 0
-IsParsed h (Ok parsed) = (parsed ≡ h) × (h.magic ≡ 0xdee2) × (h.version ≡ 2)
-IsParsed h (Err (BadMagicBytes value)) = (value ≡ h.magic) × (h.magic ≢ 0xdee2)
-IsParsed h (Err (UnsupportedVersion value)) = (value ≡ h.version) × (h.magic ≡ 0xdee2) × (h.version ≢ 2)
+abbrev pub IsParsedHeader : Header → Result Header SframeError → Type 0
+IsParsedHeader h (Ok parsed) = (parsed ≡ h) × (h.magic ≡ 0xdee2) × (h.version ≡ 2)
+IsParsedHeader h (Err (BadMagicBytes value)) = (value ≡ h.magic) × (h.magic ≢ 0xdee2)
+IsParsedHeader h (Err (UnsupportedVersion value)) = (value ≡ h.version) × (h.magic ≡ 0xdee2) × (h.version ≢ 2)

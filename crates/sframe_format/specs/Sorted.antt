@@ -5,7 +5,7 @@ use Rattle.sframe_format.specs.declared.fault.SframeOutcome.{SframeOutcome}
 use Rattle.sframe_format.specs.declared.fault.SframeOutcome.TheVariants.{Sorted, NoDescriptors, OtherVersion}
 use Rattle.sframe_format.specs.Contribution.{Contribution, Function, other_version, read_ones, functions}
 use Rattle.sframe_format.specs.Merged.{used_len, merged}
-use Rattle.sframe_format.specs.Valid.{IsMergeOf}
+use Rattle.sframe_format.specs.Valid.{MergesInOrder}
 
 -- bytes are the functions of s in order, as one contribution of which `used` bytes are used
 pub record IsMerged (s : List ℕ) (rs : List Span) (bytes : List ℕ) (used : ℕ) : Type 0 where
@@ -13,7 +13,7 @@ pub record IsMerged (s : List ℕ) (rs : List Span) (bytes : List ℕ) (used : �
   pub cs : List Contribution
   pub gs : List Function
   pub one_version : other_version s rs ≡ None
-  pub merge : IsMergeOf (read_ones s rs) c cs gs
+  pub merge : MergesInOrder (read_ones s rs) c cs gs
   pub bytes_are : bytes ≡ merged s c cs gs
   pub used_is : used ≡ used_len c gs
 

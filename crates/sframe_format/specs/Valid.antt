@@ -13,7 +13,7 @@ use Rattle.sframe_format.specs.Order.{InOrder}
 use Rattle.sframe_format.specs.Merged.{used_len, row_count, merged_starts}
 
 -- magic, descriptors and rows of a contribution lie where they should
-pub record IsSound (c : Contribution) : Type 0 where
+pub record IsWellFormedContribution (c : Contribution) : Type 0 where
   pub magic : (header c).magic ≡ 0xdee2
   pub descriptors : descriptors_start c + 20 * (header c).num_fdes ≤ length c.bytes
   pub rows : rows_start c ≤ length c.bytes
@@ -25,7 +25,7 @@ offset_fault c None = None
 offset_fault c (Some d) = Some (faults.Truncated FreOffset (c.place + descriptor_at c d))
 
 -- what is read is merged: c is the first contribution, there are functions, and gs is their order
-pub record IsMergeOf (read : List Contribution) (c : Contribution) (cs : List Contribution) (gs : List Function) : Type 0 where
+pub record MergesInOrder (read : List Contribution) (c : Contribution) (cs : List Contribution) (gs : List Function) : Type 0 where
   pub read_is : read ≡ c ∷ cs
   pub some : 0 < length gs
   pub order : InOrder (functions read) gs
@@ -38,20 +38,20 @@ pub record HasRoom (s : List ℕ) (c : Contribution) (cs : List Contribution) (g
 abbrev pub StartsFit : Contribution → List Contribution → List Function → Type 0
 StartsFit c cs gs = All (FitsSigned w32) (merged_starts c cs gs)
 
-abbrev pub AreSound : List Contribution → Type 0
-AreSound cs = All IsSound cs
+abbrev pub AreWellFormedContributions : List Contribution → Type 0
+AreWellFormedContributions cs = All IsWellFormedContribution cs
 
 -- ranges, size and contributions are as they should
-pub record IsReadable (s : List ℕ) (rs : List Span) : Type 0 where
+pub record HasReadableRanges (s : List ℕ) (rs : List Span) : Type 0 where
   pub ranges : AreInside (length s) rs
   pub size : length s < 2 ^ 32
-  pub contributions : AreSound (read_ones s rs)
+  pub contributions : AreWellFormedContributions (read_ones s rs)
 
 -- what can be sorted
-pub record IsValid (s : List ℕ) (rs : List Span) : Type 0 where
-  pub readable : IsReadable s rs
-  pub room : other_version s rs ≡ None → (c : Contribution) (cs : List Contribution) (gs : List Function) → IsMergeOf (read_ones s rs) c cs gs → HasRoom s c cs gs
-  pub starts : other_version s rs ≡ None → (c : Contribution) (cs : List Contribution) (gs : List Function) → IsMergeOf (read_ones s rs) c cs gs → StartsFit c cs gs
+pub record IsSortable (s : List ℕ) (rs : List Span) : Type 0 where
+  pub readable : HasReadableRanges s rs
+  pub room : other_version s rs ≡ None → (c : Contribution) (cs : List Contribution) (gs : List Function) → MergesInOrder (read_ones s rs) c cs gs → HasRoom s c cs gs
+  pub starts : other_version s rs ≡ None → (c : Contribution) (cs : List Contribution) (gs : List Function) → MergesInOrder (read_ones s rs) c cs gs → StartsFit c cs gs
 
 -- the first of two, where it is there
 abbrev pub or_else : Option SframeFault → Option SframeFault → Option SframeFault
@@ -59,8 +59,8 @@ or_else (Some e) other = Some e
 or_else None other = other
 
 -- what of a contribution is not so, the first in this order
-abbrev pub fault_of : Contribution → Option SframeFault
-fault_of c =
+abbrev pub contribution_fault : Contribution → Option SframeFault
+contribution_fault c =
     if not ((header c).magic == 0xdee2) then Some (faults.BadMagic (header c).magic c.place)
     else (if nat_lt (length c.bytes) (descriptors_start c + 20 * (header c).num_fdes) then Some (faults.Truncated FdeArray c.place)
     else (if nat_lt (length c.bytes) (rows_start c) then Some (faults.Truncated FreStart c.place)
@@ -69,7 +69,7 @@ fault_of c =
 -- the fault of the first contribution that is not sound
 abbrev pub first_fault : List Contribution → Option SframeFault
 first_fault [] = None
-first_fault (c ∷ cs) = or_else (fault_of c) (first_fault cs)
+first_fault (c ∷ cs) = or_else (contribution_fault c) (first_fault cs)
 
 abbrev pub fits_i32 : ℤ → Bool
 fits_i32 (pos n) = nat_lt n (2 ^ 31)
@@ -80,11 +80,11 @@ abbrev pub IsFirstFar : List ℤ → ℕ → ℤ → Type 0
 IsFirstFar starts place value = (position (λ z. not (fits_i32 z)) starts ≡ Some place) × (slice_get starts place ≡ Some value)
 
 -- the merged contribution would be longer than the section
-pub record IsTooLong (s : List ℕ) (read : List Contribution) (needed limit : ℕ) : Type 0 where
+pub record IsMergedTooLong (s : List ℕ) (read : List Contribution) (needed limit : ℕ) : Type 0 where
   pub c : Contribution
   pub cs : List Contribution
   pub gs : List Function
-  pub merge : IsMergeOf read c cs gs
+  pub merge : MergesInOrder read c cs gs
   pub needed_is : needed ≡ used_len c gs
   pub limit_is : limit ≡ length s
   pub beyond : limit < needed
@@ -94,7 +94,7 @@ pub record HasTooManyRows (s : List ℕ) (read : List Contribution) (needed limi
   pub c : Contribution
   pub cs : List Contribution
   pub gs : List Function
-  pub merge : IsMergeOf read c cs gs
+  pub merge : MergesInOrder read c cs gs
   pub short : used_len c gs ≤ length s
   pub needed_is : needed ≡ row_count read
   pub limit_is : limit ≡ 2 ^ 32 - 1
@@ -105,17 +105,17 @@ pub record HasFarStart (s : List ℕ) (read : List Contribution) (place : ℕ) (
   pub c : Contribution
   pub cs : List Contribution
   pub gs : List Function
-  pub merge : IsMergeOf read c cs gs
+  pub merge : MergesInOrder read c cs gs
   pub room : HasRoom s c cs gs
   pub first : IsFirstFar (merged_starts c cs gs) place value
 
 -- Why a section and ranges are refused, the first reason in this order.
-abbrev pub HasCause : List ℕ → List Span → SframeFault → Type 0
-HasCause s rs (faults.BadRange k) = position (λ r. not (is_inside (length s) r)) rs ≡ Some k
-HasCause s rs (faults.TooLarge Section needed limit) = AreInside (length s) rs × (needed ≡ length s) × (limit ≡ 2 ^ 32 - 1) × (limit < needed)
-HasCause s rs (faults.BadMagic value offset) = AreInside (length s) rs × (length s < 2 ^ 32) × (first_fault (read_ones s rs) ≡ Some (faults.BadMagic value offset))
-HasCause s rs (faults.Truncated kind offset) = AreInside (length s) rs × (length s < 2 ^ 32) × (first_fault (read_ones s rs) ≡ Some (faults.Truncated kind offset))
-HasCause s rs (faults.TooLarge Merged needed limit) = IsReadable s rs × (other_version s rs ≡ None) × IsTooLong s (read_ones s rs) needed limit
-HasCause s rs (faults.TooLarge Rows needed limit) = IsReadable s rs × (other_version s rs ≡ None) × HasTooManyRows s (read_ones s rs) needed limit
-HasCause s rs (faults.AddressRange place value) = IsReadable s rs × (other_version s rs ≡ None) × HasFarStart s (read_ones s rs) place value
-HasCause s rs faults.NoMemory = ⊤
+abbrev pub IsSortCause : List ℕ → List Span → SframeFault → Type 0
+IsSortCause s rs (faults.BadRange k) = position (λ r. not (is_inside (length s) r)) rs ≡ Some k
+IsSortCause s rs (faults.TooLarge Section needed limit) = AreInside (length s) rs × (needed ≡ length s) × (limit ≡ 2 ^ 32 - 1) × (limit < needed)
+IsSortCause s rs (faults.BadMagic value offset) = AreInside (length s) rs × (length s < 2 ^ 32) × (first_fault (read_ones s rs) ≡ Some (faults.BadMagic value offset))
+IsSortCause s rs (faults.Truncated kind offset) = AreInside (length s) rs × (length s < 2 ^ 32) × (first_fault (read_ones s rs) ≡ Some (faults.Truncated kind offset))
+IsSortCause s rs (faults.TooLarge Merged needed limit) = HasReadableRanges s rs × (other_version s rs ≡ None) × IsMergedTooLong s (read_ones s rs) needed limit
+IsSortCause s rs (faults.TooLarge Rows needed limit) = HasReadableRanges s rs × (other_version s rs ≡ None) × HasTooManyRows s (read_ones s rs) needed limit
+IsSortCause s rs (faults.AddressRange place value) = HasReadableRanges s rs × (other_version s rs ≡ None) × HasFarStart s (read_ones s rs) place value
+IsSortCause s rs faults.NoMemory = ⊤

@@ -2,7 +2,7 @@
 //! Both offsets count from the end of the header and its auxiliary bytes.
 
 ghost use Rattle.std.specs.Prelude.{◌≡◌, ◌≢◌, ◌+◌, ◌≤◌, ◌++◌, List, ℕ, length, drop, MatchResult, IfOk, Ok};
-ghost use Rattle.sframe_format.specs.Fields.{header_of, header_bytes, IsParsed};
+ghost use Rattle.sframe_format.specs.Fields.{header_of, header_bytes, IsParsedHeader};
 
 use elf_words::{read_u16, read_u32};
 use thiserror::Error;
@@ -84,7 +84,7 @@ impl Header {
     /// the magic is another one, else `UnsupportedVersion` exactly where the version is.
     pub fn parse(bytes: &[u8]) -> Result<Header, SframeError>
         requires { 28 ≤ length bytes.now }
-        ensures { IsParsed (header_of bytes.now) result }
+        ensures { IsParsedHeader (header_of bytes.now) result }
     {
         let header = Header::read(bytes);
         if header.magic != Header::MAGIC {

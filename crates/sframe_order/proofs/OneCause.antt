@@ -13,7 +13,7 @@ use Rattle.sframe_format.specs.declared.fault.LargeKind.TheVariants as kinds
 use Rattle.sframe_format.specs.Contribution.{Contribution, Function, read_ones, functions}
 use Rattle.sframe_format.specs.Merged.{used_len, row_count, merged_starts}
 use Rattle.sframe_format.specs.Order.{InOrder}
-use Rattle.sframe_format.specs.Valid.{IsReadable, IsMergeOf, HasCause, first_fault, or_else, fits_i32}
+use Rattle.sframe_format.specs.Valid.{HasReadableRanges, MergesInOrder, IsSortCause, first_fault, or_else, fits_i32}
 use Rattle.elf_format.specs.Span.{IsInside, AreInside, is_inside}
 use Rattle.sframe_order.proofs.OneOrder.{InOrder-unique}
 use Rattle.sframe_order.proofs.OneResult.{inside_passes, no_first_fault}
@@ -90,7 +90,7 @@ unfolding first_cause
 contribution_told s rs f inside size e =
     past (range_cause (length s) rs) _ (inside_none (length s) rs inside) ∙ past (size_cause (length s)) _ (small_none (length s) size) ∙ here (first_fault (read_ones s rs)) _ f e
 
-merge_told : (s : List ℕ) (rs : List Span) (c : Contribution) (cs : List Contribution) (gs : List Function) (f : SframeFault) → IsReadable s rs → IsMergeOf (read_ones s rs) c cs gs → merge_with s c cs gs ≡ Some f → first_cause s rs ≡ Some f
+merge_told : (s : List ℕ) (rs : List Span) (c : Contribution) (cs : List Contribution) (gs : List Function) (f : SframeFault) → HasReadableRanges s rs → MergesInOrder (read_ones s rs) c cs gs → merge_with s c cs gs ≡ Some f → first_cause s rs ≡ Some f
 unfolding first_cause merge_cause
 merge_told s rs c cs gs f readable merge e =
     let same : order (functions (c ∷ cs)) ≡ gs = InOrder-unique (functions (c ∷ cs)) (order (functions (c ∷ cs))) gs (order_is (functions (c ∷ cs))) (subst (λ (read : List Contribution). InOrder (functions read) gs) merge.read_is merge.order) in
@@ -110,7 +110,7 @@ cond_false b x y e = ap (λ t. cond t x y) e
 same_large : {k : Rattle.sframe_format.specs.declared.fault.LargeKind.LargeKind} {a a' b b' : ℕ} → a ≡ a' → b ≡ b' → Some (faults.TooLarge k a b) ≡ Some (faults.TooLarge k a' b')
 same_large p q = cc
 
-told : (s : List ℕ) (rs : List Span) (f : SframeFault) → f ≢ faults.NoMemory → HasCause s rs f → first_cause s rs ≡ Some f
+told : (s : List ℕ) (rs : List Span) (f : SframeFault) → f ≢ faults.NoMemory → IsSortCause s rs f → first_cause s rs ≡ Some f
 unfolding first_cause range_cause merge_with far_from
 told s rs (faults.BadRange k) other h = here (range_cause (length s) rs) _ _ (ap (option_map (λ k. faults.BadRange k)) h)
 told s rs (faults.TooLarge kinds.Section needed limit) other (inside, n, l, beyond) = past (range_cause (length s) rs) _ (inside_none (length s) rs inside) ∙ here (size_cause (length s)) _ _ (section_told (length s) needed limit n l beyond)
@@ -130,5 +130,5 @@ told s rs (faults.AddressRange place value) other (readable, one, h) =
 told s rs faults.NoMemory other h = absurd (other refl)
 
 -- causes other than want of memory are the same one
-pub one_cause : (s : List ℕ) (rs : List Span) (e f : SframeFault) → e ≢ faults.NoMemory → f ≢ faults.NoMemory → HasCause s rs e → HasCause s rs f → e ≡ f
+pub one_cause : (s : List ℕ) (rs : List Span) (e f : SframeFault) → e ≢ faults.NoMemory → f ≢ faults.NoMemory → IsSortCause s rs e → IsSortCause s rs f → e ≡ f
 one_cause s rs e f p q a b = let same : Some e ≡ Some f = sym (told s rs e p a) ∙ told s rs f q b in cc

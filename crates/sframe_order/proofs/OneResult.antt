@@ -15,7 +15,7 @@ use Rattle.sframe_format.specs.declared.fault.SframeFault.TheVariants as faults
 use Rattle.sframe_format.specs.declared.fault.LargeKind.TheVariants as kinds
 use Rattle.sframe_format.specs.Contribution.{Contribution, header, rows_start, row_offset, read_ones, other_version, function_at, functions_of, functions}
 use Rattle.sframe_format.specs.Merged.{merged, used_len, row_count, merged_starts}
-use Rattle.sframe_format.specs.Valid.{IsSound, AreSound, IsValid, HasCause, fault_of, first_fault, or_else, offset_fault, fits_i32}
+use Rattle.sframe_format.specs.Valid.{IsWellFormedContribution, AreWellFormedContributions, IsSortable, IsSortCause, contribution_fault, first_fault, or_else, offset_fault, fits_i32}
 use Rattle.elf_format.specs.Span.{IsInside, is_inside}
 use Rattle.sframe_format.specs.Sorted.{SortOf, IsMerged}
 use Rattle.sframe_order.specs.Laws.{HasNoDescriptors}
@@ -74,14 +74,14 @@ is_magic m e = grind (arith, nat_tests)
 not_below : (m n : ℕ) → n ≤ m → ltb m n ≡ false
 not_below m n h = grind (arith, nat_tests)
 
-no_fault : (c : Contribution) → IsSound c → fault_of c ≡ None
+no_fault : (c : Contribution) → IsWellFormedContribution c → contribution_fault c ≡ None
 no_fault c sound =
     none_of _ _ _ _ _ _ _ (is_magic (header c).magic sound.magic) (not_below _ _ sound.descriptors) (not_below _ _ sound.rows)
     (ap (offset_fault c) (sym (none_below (λ d. not (ltb (row_offset c d) (length c.bytes - rows_start c))) (header c).num_fdes (λ k b. passes_below _ _ (sound.offsets k b)))))
 
-pub no_first_fault : (cs : List Contribution) → AreSound cs → first_fault cs ≡ None
+pub no_first_fault : (cs : List Contribution) → AreWellFormedContributions cs → first_fault cs ≡ None
 no_first_fault [] sound = refl
-no_first_fault (c ∷ cs) sound = ap (λ o. or_else o (first_fault cs)) (no_fault c (All-head IsSound c cs sound)) ∙ no_first_fault cs (All-tail IsSound c cs sound)
+no_first_fault (c ∷ cs) sound = ap (λ o. or_else o (first_fault cs)) (no_fault c (All-head IsWellFormedContribution c cs sound)) ∙ no_first_fault cs (All-tail IsWellFormedContribution c cs sound)
 
 fits_passes : (z : ℤ) → FitsSigned w32 z → not (fits_i32 z) ≡ false
 fits_passes (pos n) f = grind (arith, nat_tests, f.sfits)
@@ -97,7 +97,7 @@ found_no : {X : Type 0} (o : Option SframeFault) (e : SframeFault) → o ≡ Non
 found_no o e p q = cc
 
 -- a valid section is refused for want of memory alone
-pub only_memory : (s : List ℕ) (rs : List Span) (e : SframeFault) → IsValid s rs → HasCause s rs e → e ≡ faults.NoMemory
+pub only_memory : (s : List ℕ) (rs : List Span) (e : SframeFault) → IsSortable s rs → IsSortCause s rs e → e ≡ faults.NoMemory
 only_memory s rs (faults.BadRange k) valid h = absurd (not_found (λ r. not (is_inside (length s) r)) rs k no_span (All-weaker (IsInside (length s)) (λ r. not (is_inside (length s) r) ≡ false) (inside_passes (length s)) rs valid.readable.ranges) h)
 only_memory s rs (faults.TooLarge kinds.Section needed limit) valid (inside, n, l, beyond) = absurd (omega (arith, valid.readable.size))
 only_memory s rs (faults.BadMagic value offset) valid (inside, size, fault) = found_no _ _ (no_first_fault (read_ones s rs) valid.readable.contributions) fault

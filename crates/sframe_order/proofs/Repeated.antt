@@ -13,7 +13,7 @@ use Rattle.sframe_format.specs.Fields.{header_of, header_bytes}
 use Rattle.sframe_format.specs.Contribution.{Contribution, Function, header, contribution_at, is_contribution, is_other_version, contributions, read_ones, functions}
 use Rattle.sframe_format.specs.Order.{InOrder}
 use Rattle.sframe_format.specs.Merged.{merged, merged_flags, merged_header, used_len, first_place, descriptors, start_fields, rows_len, row_count}
-use Rattle.sframe_format.specs.Valid.{IsReadable, IsMergeOf, HasRoom, StartsFit}
+use Rattle.sframe_format.specs.Valid.{HasReadableRanges, MergesInOrder, HasRoom, StartsFit}
 use Rattle.sframe_format.specs.Sorted.{IsMerged}
 use Rattle.sframe_format.proofs.Again.{HeaderFits, header_of-header_bytes}
 use Rattle.sframe_format.proofs.Headers.{same_header}
@@ -193,7 +193,7 @@ read_again s c cs gs good = read_ones-kept (merged s c cs gs) (used_span (used_l
 pub functions_of_one : (s : List ℕ) (c : Contribution) (cs : List Contribution) (gs : List Function) → IsGood s c cs gs → functions (merged_one s c cs gs ∷ []) ≡ gs
 functions_of_one s c cs gs good = functions_again (merged_one s c cs gs) (merged_flags c cs) (header c).aux_len gs (one_laid s c cs gs good)
 
-pub merge_again : (s : List ℕ) (c : Contribution) (cs : List Contribution) (gs : List Function) (fs : List Function) → IsGood s c cs gs → InOrder fs gs → 0 < length gs → IsMergeOf (read_ones (merged s c cs gs) (used_span (used_len c gs) ∷ [])) (merged_one s c cs gs) [] gs
+pub merge_again : (s : List ℕ) (c : Contribution) (cs : List Contribution) (gs : List Function) (fs : List Function) → IsGood s c cs gs → InOrder fs gs → 0 < length gs → MergesInOrder (read_ones (merged s c cs gs) (used_span (used_len c gs) ∷ [])) (merged_one s c cs gs) [] gs
 merge_again s c cs gs fs good order some = record {
   read_is = read_again s c cs gs good;
   some = some;
@@ -212,7 +212,7 @@ again s c cs gs fs good order some = record {
 }
 
 -- what is valid and has functions is good
-pub good_from : (s : List ℕ) (rs : List Span) (c : Contribution) (cs : List Contribution) (gs : List Function) → AreBytes s → IsReadable s rs → IsMergeOf (read_ones s rs) c cs gs → HasRoom s c cs gs → StartsFit c cs gs → IsGood s c cs gs
+pub good_from : (s : List ℕ) (rs : List Span) (c : Contribution) (cs : List Contribution) (gs : List Function) → AreBytes s → HasReadableRanges s rs → MergesInOrder (read_ones s rs) c cs gs → HasRoom s c cs gs → StartsFit c cs gs → IsGood s c cs gs
 good_from s rs c cs gs bytes readable merge room fit = record {
   bytes = All-head (λ (x : Contribution). AreBytes x.bytes) c cs (subst (All (λ (x : Contribution). AreBytes x.bytes)) merge.read_is (read_bytes s rs bytes));
   size = readable.size;

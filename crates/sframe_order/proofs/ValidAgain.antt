@@ -8,7 +8,7 @@ use Rattle.elf_format.specs.declared.index.Span.{Span}
 use Rattle.sframe_format.specs.Contribution.{Contribution, Function, header, read_ones, functions}
 use Rattle.sframe_format.specs.Order.{InOrder}
 use Rattle.sframe_format.specs.Merged.{merged, merged_flags, merged_starts, used_len, first_place, start_fields, rows_len, row_count}
-use Rattle.sframe_format.specs.Valid.{IsSound, AreSound, IsValid, IsMergeOf, HasRoom, StartsFit}
+use Rattle.sframe_format.specs.Valid.{IsWellFormedContribution, AreWellFormedContributions, IsSortable, MergesInOrder, HasRoom, StartsFit}
 use Rattle.elf_format.specs.Span.{IsInside}
 use Rattle.sframe_format.specs.Sorted.{IsMerged}
 use Rattle.sframe_order.proofs.Again.{before}
@@ -17,7 +17,7 @@ use Rattle.sframe_order.proofs.Laid.{IsLaid, rows_place, offset_at}
 use Rattle.sframe_order.proofs.Repeated.{IsGood, merged_one, one_header, one_laid, length_merged, flags_again, place_again, used_again, read_again, merge_again, again, good_from}
 use Rattle.sframe_order.specs.Laws.{AreBytes, used_span}
 
-laid_sound : (x : Contribution) (flags a : ℕ) (gs : List Function) (g : Function) → IsLaid x flags a gs → (header x).magic ≡ 0xdee2 → IsSound x
+laid_sound : (x : Contribution) (flags a : ℕ) (gs : List Function) (g : Function) → IsLaid x flags a gs → (header x).magic ≡ 0xdee2 → IsWellFormedContribution x
 laid_sound x flags a gs g laid magic = record {
   magic = magic;
   descriptors = omega (arith, laid.aux_is, laid.descriptors_from, laid.count, laid.len);
@@ -40,19 +40,19 @@ room_again s c cs gs good =
 starts_again : (s : List ℕ) (c : Contribution) (cs : List Contribution) (gs : List Function) → IsGood s c cs gs → merged_starts (merged_one s c cs gs) [] gs ≡ merged_starts c cs gs
 starts_again s c cs gs good = ap (λ f. start_fields f (first_place (merged_one s c cs gs)) gs) (flags_again s c cs gs good) ∙ ap (λ p. start_fields (merged_flags c cs) p gs) (place_again s c cs gs good)
 
-pub valid_again : (s : List ℕ) (c : Contribution) (cs : List Contribution) (gs : List Function) (fs : List Function) (g : Function) → IsGood s c cs gs → InOrder fs gs → 0 < length gs → IsValid (merged s c cs gs) (used_span (used_len c gs) ∷ [])
+pub valid_again : (s : List ℕ) (c : Contribution) (cs : List Contribution) (gs : List Function) (fs : List Function) (g : Function) → IsGood s c cs gs → InOrder fs gs → 0 < length gs → IsSortable (merged s c cs gs) (used_span (used_len c gs) ∷ [])
 valid_again s c cs gs fs g good order some =
     let t : List ℕ = merged s c cs gs in
     let x : Contribution = merged_one s c cs gs in
     let r : Span = used_span (used_len c gs) in
     let len : length t ≡ length s = length_merged s c cs gs good in
-    let sound : IsSound x = laid_sound x (merged_flags c cs) (header c).aux_len gs g (one_laid s c cs gs good) (ap (λ (h : Header). h.magic) (one_header s c cs gs good)) in
-    let merge : IsMergeOf (read_ones t (r ∷ [])) x [] gs = merge_again s c cs gs fs good order some in
+    let sound : IsWellFormedContribution x = laid_sound x (merged_flags c cs) (header c).aux_len gs g (one_laid s c cs gs good) (ap (λ (h : Header). h.magic) (one_header s c cs gs good)) in
+    let merge : MergesInOrder (read_ones t (r ∷ [])) x [] gs = merge_again s c cs gs fs good order some in
     record {
       readable = record {
         ranges = All-cons (IsInside (length t)) r [] (record { ordered = omega arith; below = omega (arith, good.room.used) }) (All-nil (IsInside (length t)));
         size = omega (arith, good.size);
-        contributions = subst AreSound (sym (read_again s c cs gs good)) (All-cons IsSound x [] sound (All-nil IsSound));
+        contributions = subst AreWellFormedContributions (sym (read_again s c cs gs good)) (All-cons IsWellFormedContribution x [] sound (All-nil IsWellFormedContribution));
       };
       room = λ one c' cs' gs' m. same_merge (HasRoom t) (read_ones t (r ∷ [])) x c' [] cs' gs gs' merge m (room_again s c cs gs good);
       starts = λ one c' cs' gs' m. same_merge StartsFit (read_ones t (r ∷ [])) x c' [] cs' gs gs' merge m (subst (All (FitsSigned w32)) (sym (starts_again s c cs gs good)) good.fit);
@@ -61,15 +61,15 @@ valid_again s c cs gs fs g good order some =
 no_function : Function
 no_function = record { start = pos 0; size = []; info = []; rows = [] }
 
-good_of : (s t : List ℕ) (rs : List Span) (used : ℕ) → AreBytes s → IsValid s rs → (h : IsMerged s rs t used) → IsGood s h.c h.cs h.gs
+good_of : (s t : List ℕ) (rs : List Span) (used : ℕ) → AreBytes s → IsSortable s rs → (h : IsMerged s rs t used) → IsGood s h.c h.cs h.gs
 good_of s t rs used bytes valid h = good_from s rs h.c h.cs h.gs bytes valid.readable h.merge (valid.room h.one_version h.c h.cs h.gs h.merge) (valid.starts h.one_version h.c h.cs h.gs h.merge)
 
-pub stays_sorted : (s t : List ℕ) (rs : List Span) (used : ℕ) → AreBytes s → IsValid s rs → IsMerged s rs t used → IsMerged t (used_span used ∷ []) t used
+pub stays_sorted : (s t : List ℕ) (rs : List Span) (used : ℕ) → AreBytes s → IsSortable s rs → IsMerged s rs t used → IsMerged t (used_span used ∷ []) t used
 stays_sorted s t rs used bytes valid h =
     let same : IsMerged (merged s h.c h.cs h.gs) (used_span (used_len h.c h.gs) ∷ []) (merged s h.c h.cs h.gs) (used_len h.c h.gs) = again s h.c h.cs h.gs (functions (read_ones s rs)) (good_of s t rs used bytes valid h) h.merge.order h.merge.some in
     subst (λ n. IsMerged t (used_span n ∷ []) t n) (sym h.used_is) (subst (λ b. IsMerged b (used_span (used_len h.c h.gs) ∷ []) b (used_len h.c h.gs)) (sym h.bytes_are) same)
 
-pub stays_valid : (s t : List ℕ) (rs : List Span) (used : ℕ) → AreBytes s → IsValid s rs → IsMerged s rs t used → IsValid t (used_span used ∷ [])
+pub stays_valid : (s t : List ℕ) (rs : List Span) (used : ℕ) → AreBytes s → IsSortable s rs → IsMerged s rs t used → IsSortable t (used_span used ∷ [])
 stays_valid s t rs used bytes valid h =
-    let same : IsValid (merged s h.c h.cs h.gs) (used_span (used_len h.c h.gs) ∷ []) = valid_again s h.c h.cs h.gs (functions (read_ones s rs)) no_function (good_of s t rs used bytes valid h) h.merge.order h.merge.some in
-    subst (λ n. IsValid t (used_span n ∷ [])) (sym h.used_is) (subst (λ b. IsValid b (used_span (used_len h.c h.gs) ∷ [])) (sym h.bytes_are) same)
+    let same : IsSortable (merged s h.c h.cs h.gs) (used_span (used_len h.c h.gs) ∷ []) = valid_again s h.c h.cs h.gs (functions (read_ones s rs)) no_function (good_of s t rs used bytes valid h) h.merge.order h.merge.some in
+    subst (λ n. IsSortable t (used_span n ∷ [])) (sym h.used_is) (subst (λ b. IsSortable b (used_span (used_len h.c h.gs) ∷ [])) (sym h.bytes_are) same)

@@ -7,7 +7,7 @@ use Rattle.sframe_format.specs.declared.fault.SframeOutcome.TheVariants.{Sorted,
 use Rattle.sframe_format.specs.declared.fault.SframeFault.{SframeFault}
 use Rattle.sframe_format.specs.declared.fault.SframeFault.TheVariants.{NoMemory}
 use Rattle.sframe_format.specs.Contribution.{header, read_ones, other_version}
-use Rattle.sframe_format.specs.Valid.{IsValid, HasCause}
+use Rattle.sframe_format.specs.Valid.{IsSortable, IsSortCause}
 use Rattle.sframe_format.specs.Sorted.{SortOf}
 
 abbrev pub AreBytes : List ℕ → Type 0
@@ -19,11 +19,11 @@ used_span used = record { start = 0; stop = used }
 
 -- a valid section that is sorted, also where some of its contributions have relative starts and others absolute ones, stays as it is when it is sorted again by its used bytes
 abbrev pub StaysSorted : Type 0
-StaysSorted = (s t : List ℕ) (rs : List Span) (used : ℕ) → AreBytes s → IsValid s rs → SortOf s rs t (Sorted used) → SortOf t (used_span used ∷ []) t (Sorted used)
+StaysSorted = (s t : List ℕ) (rs : List Span) (used : ℕ) → AreBytes s → IsSortable s rs → SortOf s rs t (Sorted used) → SortOf t (used_span used ∷ []) t (Sorted used)
 
 -- and it is valid
 abbrev pub StaysValid : Type 0
-StaysValid = (s t : List ℕ) (rs : List Span) (used : ℕ) → AreBytes s → IsValid s rs → SortOf s rs t (Sorted used) → IsValid t (used_span used ∷ [])
+StaysValid = (s t : List ℕ) (rs : List Span) (used : ℕ) → AreBytes s → IsSortable s rs → SortOf s rs t (Sorted used) → IsSortable t (used_span used ∷ [])
 
 -- sorting gives these bytes and this outcome, and nothing else
 abbrev pub IsOnlySort : List ℕ → List Span → List ℕ → SframeOutcome → Type 0
@@ -50,8 +50,8 @@ OutcomesAreExact = (s : List ℕ) (rs : List Span) (bytes : List ℕ) (outcome :
 
 -- a valid section is refused for want of memory alone
 abbrev pub IsRefusedOnlyForMemory : Type 0
-IsRefusedOnlyForMemory = (s : List ℕ) (rs : List Span) (e : SframeFault) → IsValid s rs → HasCause s rs e → e ≡ NoMemory
+IsRefusedOnlyForMemory = (s : List ℕ) (rs : List Span) (e : SframeFault) → IsSortable s rs → IsSortCause s rs e → e ≡ NoMemory
 
 -- a section and its ranges have one cause of a refusal, want of memory aside
-abbrev pub HasOneCause : Type 0
-HasOneCause = (s : List ℕ) (rs : List Span) (e f : SframeFault) → e ≢ NoMemory → f ≢ NoMemory → HasCause s rs e → HasCause s rs f → e ≡ f
+abbrev pub HasOneSortCause : Type 0
+HasOneSortCause = (s : List ℕ) (rs : List Span) (e f : SframeFault) → e ≢ NoMemory → f ≢ NoMemory → IsSortCause s rs e → IsSortCause s rs f → e ≡ f

@@ -7,7 +7,7 @@ use Rattle.sframe_format.specs.declared.fault.SframeOutcome.TheVariants as outco
 use Rattle.elf_format.specs.declared.index.Span.{Span}
 use Rattle.sframe_format.specs.Contribution.{Contribution, Function, functions}
 use Rattle.sframe_format.specs.Merged.{merged, used_len}
-use Rattle.sframe_format.specs.Valid.{IsMergeOf, HasRoom, StartsFit, IsTooLong, HasTooManyRows, HasFarStart}
+use Rattle.sframe_format.specs.Valid.{MergesInOrder, HasRoom, StartsFit, IsMergedTooLong, HasTooManyRows, HasFarStart}
 use Rattle.sframe_format.specs.Sorted.{SortOf}
 use Rattle.sframe_order.specs.declared.plan.Plan.{Plan}
 use Rattle.sframe_order.specs.declared.plan.Plan.TheVariants.{Keep, Write}
@@ -22,7 +22,7 @@ pub record IsWritten (s : List ℕ) (read : List Contribution) (bytes : List ℕ
   pub c : Contribution
   pub cs : List Contribution
   pub gs : List Function
-  pub merge : IsMergeOf read c cs gs
+  pub merge : MergesInOrder read c cs gs
   pub room : HasRoom s c cs gs
   pub starts : StartsFit c cs gs
   pub len : length bytes ≡ length s
@@ -36,7 +36,7 @@ IsMergePlan s read (Write bytes used) = IsWritten s read bytes.items used
 
 -- why what was read is not merged
 abbrev pub IsMergeFault : List ℕ → List Contribution → SframeFault → Type 0
-IsMergeFault s read (faults.TooLarge kinds.Merged needed limit) = IsTooLong s read needed limit
+IsMergeFault s read (faults.TooLarge kinds.Merged needed limit) = IsMergedTooLong s read needed limit
 IsMergeFault s read (faults.TooLarge kinds.Rows needed limit) = HasTooManyRows s read needed limit
 IsMergeFault s read (faults.TooLarge kinds.Section needed limit) = ⊥
 IsMergeFault s read (faults.AddressRange place value) = HasFarStart s read place value

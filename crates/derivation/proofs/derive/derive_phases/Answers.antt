@@ -1,7 +1,7 @@
 use Rattle.std.proofs.Common.{List, inr, refl, subst, sym, ◌∙◌}
 use Rattle.elf_format.specs.Class.{class64}
 use Rattle.elf_view.specs.Parsed.{Parsed}
-use Rattle.gdb_tables.specs.Files.{bytes_of, ArePlacedIn}
+use Rattle.gdb_tables.specs.Files.{file_bytes, ArePlacedIn}
 use Rattle.derivation.specs.Input.{input_of}
 use Rattle.derivation.proofs.Composing.{small_files, misplaced_cause, index_cause, valid_input, sframe_cause}
 use Rattle.derivation.proofs.derive.derive_phases.Goals as goal
@@ -16,24 +16,24 @@ index_tables-requires-clause-small c = small_files c.args.buffer.now c.args.obje
 
 pub index_tables-requires-clause-placements : goal.index_tables-requires-clause-placements
 index_tables-requires-clause-placements c =
-    subst (λ (fs : List Parsed). ArePlacedIn class64 (bytes_of fs) c.args.placements.now) (c.deref.ensures.value ∙ sym c.deref-2.ensures.value) (c.in_default-first_misplaced.ensures.none refl)
+    subst (λ (fs : List Parsed). ArePlacedIn class64 (file_bytes fs) c.args.placements.now) (c.deref.ensures.value ∙ sym c.deref-2.ensures.value) (c.in_default-first_misplaced.ensures.none refl)
 
 pub returns-in-Err-index_tables-clause-cause : goal.returns-in-Err-index_tables-clause-cause
 returns-in-Err-index_tables-clause-cause c =
     let input = input_of c.args.expected c.args.buffer.now c.args.objects.now c.args.placements.now c.args.sframe.now c.args.ranges.now in
-    let placed = subst (λ (fs : List Parsed). ArePlacedIn class64 (bytes_of fs) c.args.placements.now) (c.deref.ensures.value ∙ sym c.deref-2.ensures.value) (c.in_default-first_misplaced.ensures.none refl) in
+    let placed = subst (λ (fs : List Parsed). ArePlacedIn class64 (file_bytes fs) c.args.placements.now) (c.deref.ensures.value ∙ sym c.deref-2.ensures.value) (c.in_default-first_misplaced.ensures.none refl) in
     index_cause input c.deref-2.result.now c.in-Err-index_tables.error (c.deref-2.ensures.value ∙ c.in-Ok.ensures.files) (c.in_default.ensures.none refl) c.in-Ok.ensures.sound placed c.in-Err-index_tables.ensures.cause
 
 pub returns-in-Ok-order_sframe-clause-valid : goal.returns-in-Ok-order_sframe-clause-valid
 returns-in-Ok-order_sframe-clause-valid c =
     let input = input_of c.args.expected c.args.buffer.now c.args.objects.now c.args.placements.now c.args.sframe.now c.args.ranges.now in
-    let placed = subst (λ (fs : List Parsed). ArePlacedIn class64 (bytes_of fs) c.args.placements.now) (c.deref.ensures.value ∙ sym c.deref-2.ensures.value) (c.in_default-first_misplaced.ensures.none refl) in
+    let placed = subst (λ (fs : List Parsed). ArePlacedIn class64 (file_bytes fs) c.args.placements.now) (c.deref.ensures.value ∙ sym c.deref-2.ensures.value) (c.in_default-first_misplaced.ensures.none refl) in
     let indexed = c.in-Ok-index_tables.ensures in
     valid_input input c.deref-2.result.now (c.deref-2.ensures.value ∙ c.in-Ok.ensures.files) (c.in_default.ensures.none refl) c.in-Ok.ensures.sound placed indexed.indexable indexed.relocated c.in-Ok-order_sframe.ensures.valid
 
 pub returns-clause-cause : goal.returns-clause-cause
 returns-clause-cause c =
     let input = input_of c.args.expected c.args.buffer.now c.args.objects.now c.args.placements.now c.args.sframe.now c.args.ranges.now in
-    let placed = subst (λ (fs : List Parsed). ArePlacedIn class64 (bytes_of fs) c.args.placements.now) (c.deref.ensures.value ∙ sym c.deref-2.ensures.value) (c.in_default-first_misplaced.ensures.none refl) in
+    let placed = subst (λ (fs : List Parsed). ArePlacedIn class64 (file_bytes fs) c.args.placements.now) (c.deref.ensures.value ∙ sym c.deref-2.ensures.value) (c.in_default-first_misplaced.ensures.none refl) in
     let indexed = c.in-Ok-index_tables.ensures in
     sframe_cause input c.deref-2.result.now c.in-Err-order_sframe.error (c.deref-2.ensures.value ∙ c.in-Ok.ensures.files) (c.in_default.ensures.none refl) c.in-Ok.ensures.sound placed indexed.indexable indexed.relocated c.in-Err-order_sframe.ensures.cause

@@ -3,9 +3,9 @@ use Rattle.std.proofs.Common.{refl}
 use lib.Count.{ones}
 use Rattle.elf_format.specs.Bytes.{le, string_at}
 use Rattle.gdb_index_format.specs.Slots.{slot_of}
-use Rattle.gdb_index_format.specs.Probe.{table_at, pool_at, slot_count, are_in_order, is_table, fault_of, vector_at, look_in, probe_from, probe}
+use Rattle.gdb_index_format.specs.Probe.{table_at, pool_at, slot_count, are_in_order, is_table, index_fault, vector_at, look_in, probe_from, probe}
 use Rattle.gdb_index.proofs.examples.absent_name_takes_three_looks.Goals as goal
 
 pub returns-clause-looks : goal.returns-clause-looks
-unfolding le string_at probe fault_of are_in_order is_table slot_count pool_at table_at probe_from look_in slot_of vector_at ones
+unfolding le string_at probe index_fault are_in_order is_table slot_count pool_at table_at probe_from look_in slot_of vector_at ones
 returns-clause-looks c = refl

@@ -9,7 +9,7 @@ use Rattle.gdb_index_format.specs.Named.{Named, named, all_named}
 use Rattle.gdb_index.specs.Scan.{Scan}
 use Rattle.gdb_index.specs.Table.{Slot, table_bytes}
 use Rattle.gdb_index.specs.Filled.{IsFilled}
-use Rattle.gdb_index.specs.Layout.{header, u32s_bytes, unit_bytes, address_bytes, vector_bytes, name_bytes, AreUnits, IsIndexOf}
+use Rattle.gdb_index.specs.Layout.{header, u32s_bytes, unit_bytes, address_bytes, vector_bytes, name_bytes, AreUnits, IsLayoutOf}
 use Rattle.gdb_index.proofs.Lengths.{length-units, length-addresses, length-vectors, length-names}
 use Rattle.gdb_index.proofs.SlotLists.{length-table}
 use Rattle.gdb_index.proofs.Rooms.{room_held}
@@ -19,7 +19,7 @@ use Rattle.gdb_index.proofs.Headline.{answers_all}
 use Rattle.gdb_index.proofs.writer.write_gdb_index.Goals as goal
 
 -- the layout, from the units and names as they are held to those of the scan
-index_is : (s : Scan) (units : List CuBoundary) (ns : List Named) (xs : List AddressEntry) (b : List ℕ) (slots saved : ℕ) (table : List Slot) → units ≡ s.units → ns ≡ s.names → IsSlotCount (length ns) slots → IsFilled table slots ns → b ≡ u32s_bytes (header 9 (length units) (length xs) slots) ++ flat_map unit_bytes units ++ flat_map address_bytes xs ++ table_bytes table ++ replicate 8 0 ++ flat_map vector_bytes ns ++ flat_map name_bytes ns ++ replicate saved 0 → IsIndexOf 9 s xs b
+index_is : (s : Scan) (units : List CuBoundary) (ns : List Named) (xs : List AddressEntry) (b : List ℕ) (slots saved : ℕ) (table : List Slot) → units ≡ s.units → ns ≡ s.names → IsSlotCount (length ns) slots → IsFilled table slots ns → b ≡ u32s_bytes (header 9 (length units) (length xs) slots) ++ flat_map unit_bytes units ++ flat_map address_bytes xs ++ table_bytes table ++ replicate 8 0 ++ flat_map vector_bytes ns ++ flat_map name_bytes ns ++ replicate saved 0 → IsLayoutOf 9 s xs b
 index_is s units ns xs b slots saved table us named counts filled bytes = record {
   slots = slots;
   counted = subst (λ (n : List Named). IsSlotCount (length n) slots) named counts;

@@ -1,7 +1,7 @@
 use Rattle.std.proofs.Common.{rules, arith, IfErr}
 use Rattle.std.proofs.lemmas.Grind.{common_steps}
 use Rattle.gdb_index_format.proofs.UnitLists.{four_at_least}
-use Rattle.gdb_sections.specs.UnitCause.{HasCause}
+use Rattle.gdb_sections.specs.UnitCause.{IsUnitListCause}
 use Rattle.gdb_sections.proofs.UnitReading.{no_refusal}
 use Rattle.gdb_sections.proofs.units.parse_cu_boundaries.Goals as goal
 
@@ -10,5 +10,5 @@ loop-at-smaller c = omega (arith, c.in_ok-length.ensures.ok, c.in_ok-length.ensu
 
 pub returns-in_err-length-clause-complete : goal.returns-in_err-length-clause-complete
 returns-in_err-length-clause-complete c = λ us list.
-    let cause : IfErr c.from_residual.result (HasCause c.args.bytes.now) = first_of (search rules, grind (arith, common_steps)) in
+    let cause : IfErr c.from_residual.result (IsUnitListCause c.args.bytes.now) = first_of (search rules, grind (arith, common_steps)) in
     no_refusal c.args.bytes.now us c.from_residual.result list cause

@@ -5,7 +5,7 @@ use Rattle.gdb_index_format.specs.Published.{Object}
 use Rattle.gdb_index_format.specs.declared.placement.Placement.{Placement}
 use Rattle.gdb_index_format.proofs.ObjectLists.{objects_are_one_lem}
 use Rattle.gdb_tables.specs.Addresses.{entries_of}
-use Rattle.gdb_tables.specs.Files.{bytes_of}
+use Rattle.gdb_tables.specs.Files.{file_bytes}
 use Rattle.gdb_tables.proofs.Addressing.{added_none, added_more, added_all, object_at, as_many_objects, count_at, room_at, own_fit, first_fault, few_addresses}
 use Rattle.gdb_tables.proofs.addresses.build_address_entries.Goals as goal
 
@@ -68,7 +68,7 @@ loop-object-preserved g c =
     record {
       added = λ os held.
           let at = object_at class files os i f held c.loop-object-test.true c.index-files-object.is in
-          let same : c.requires.scanned.0 ≡ os = objects_are_one_lem.one_list class (bytes_of files) c.requires.scanned.0 os c.requires.scanned.1 held in
+          let same : c.requires.scanned.0 ≡ os = objects_are_one_lem.one_list class (file_bytes files) c.requires.scanned.0 os c.requires.scanned.1 held in
           let counts = c.unit_counts-counts.ensures.counts ∙ c.requires.scanned.2.counts ∙ ap (λ xs. map (λ (o : Object). length o.units) xs) same in
           added_more class files os c.args.placements.now i c.loop-object.first c.loop-object.entries.items c.add_object.new.entries.items f at.0 _ c.requires.placements c.loop-object-test.true c.index-files-object.is at.1
           (ap (λ ns. get_or ns i 0) counts ∙ count_at os i at.0 at.1)

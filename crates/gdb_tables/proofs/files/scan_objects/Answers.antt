@@ -3,7 +3,7 @@ use Rattle.std.proofs.lemmas.Grind.{common_steps}
 use Rattle.std.proofs.lemmas.Result.{err_from_is_err_and}
 use Rattle.elf_view.specs.Parsed.{Parsed}
 use Rattle.gdb_tables.specs.declared.error.GdbError.TheVariants.{NoMemory}
-use Rattle.gdb_tables.specs.Files.{bytes_of, IsFilesCause, in_object, no_memory}
+use Rattle.gdb_tables.specs.Files.{file_bytes, IsFilesCause, in_object, no_memory}
 use Rattle.gdb_tables.proofs.Causes.{holds_of}
 use Rattle.gdb_tables.proofs.OneCause.{refused_by, one_files_cause, told_files, no_cause_in_scans, no_files_cause, only_memory_in_files}
 use Rattle.gdb_tables.proofs.Scanning.{Scanned, scanned_none, scanned_more, scans_objects, take_next, take_all_files, taken_length, file_at, first_bad_object, names_sections_of}
@@ -16,20 +16,20 @@ loop-object-init g c = record { done = scanned_none g.C.ElfClass.class c.args.pl
 pub returns-in_err-scans-clause-cause : goal.returns-in_err-scans-clause-cause
 returns-in_err-scans-clause-cause g c =
     let p = err_from_is_err_and c.from_residual.result c.from_residual.ensures.1 in
-    holds_of (IsFilesCause g.C.ElfClass.class (bytes_of c.args.files.now)) c.from_residual.result NoMemory (p.1 ∙ ap (λ e. Err e) p.2) no_memory
+    holds_of (IsFilesCause g.C.ElfClass.class (file_bytes c.args.files.now)) c.from_residual.result NoMemory (p.1 ∙ ap (λ e. Err e) p.2) no_memory
 
 pub scan_one_object-requires-clause-named : goal.scan_one_object-requires-clause-named
-scan_one_object-requires-clause-named g c = names_sections_of g.C.ElfClass.class (bytes_of c.args.files.now) c.args.placements.now c.loop-object.object c.index-files-object.result.bytes c.requires.placements (file_at c.args.files.now c.loop-object.object c.index-files-object.result (omega arith) c.index-files-object.is)
+scan_one_object-requires-clause-named g c = names_sections_of g.C.ElfClass.class (file_bytes c.args.files.now) c.args.placements.now c.loop-object.object c.index-files-object.result.bytes c.requires.placements (file_at c.args.files.now c.loop-object.object c.index-files-object.result (omega arith) c.index-files-object.is)
 
 pub returns-in_err-push-in-Ok-clause-cause : goal.returns-in_err-push-in-Ok-clause-cause
 returns-in_err-push-in-Ok-clause-cause g c =
     let p = err_from_is_err_and c.from_residual-in_err-push-in-Ok.result c.from_residual-in_err-push-in-Ok.ensures.1 in
-    holds_of (IsFilesCause g.C.ElfClass.class (bytes_of c.args.files.now)) c.from_residual-in_err-push-in-Ok.result NoMemory (p.1 ∙ ap (λ e. Err e) p.2) no_memory
+    holds_of (IsFilesCause g.C.ElfClass.class (file_bytes c.args.files.now)) c.from_residual-in_err-push-in-Ok.result NoMemory (p.1 ∙ ap (λ e. Err e) p.2) no_memory
 
 pub returns-in_err-push-in-Ok-clause-exact : goal.returns-in_err-push-in-Ok-clause-exact
 returns-in_err-push-in-Ok-clause-exact g c =
     let class = g.C.ElfClass.class in
-    let files = bytes_of c.args.files.now in
+    let files = file_bytes c.args.files.now in
     let p = err_from_is_err_and c.from_residual-in_err-push-in-Ok.result c.from_residual-in_err-push-in-Ok.ensures.1 in
     λ e cause some. refused_by (IsFilesCause class files) c.from_residual-in_err-push-in-Ok.result NoMemory e (one_files_cause class files) (p.1 ∙ ap (λ x. Err x) p.2) (returns-in_err-push-in-Ok-clause-cause g c) cause some
 
@@ -37,16 +37,16 @@ pub returns-in-Err-clause-cause : goal.returns-in-Err-clause-cause
 returns-in-Err-clause-cause g c =
     let i = c.loop-object.object in
     let f = c.index-files-object.result in
-    in_object c.in-Err.error (first_bad_object g.C.ElfClass.class (bytes_of c.args.files.now) c.args.placements.now c.loop-object.scans.items i f.bytes c.in-Err.error (file_at c.args.files.now i f (omega arith) c.index-files-object.is) c.loop-object.invariant.done c.in-Err.ensures.cause)
+    in_object c.in-Err.error (first_bad_object g.C.ElfClass.class (file_bytes c.args.files.now) c.args.placements.now c.loop-object.scans.items i f.bytes c.in-Err.error (file_at c.args.files.now i f (omega arith) c.index-files-object.is) c.loop-object.invariant.done c.in-Err.ensures.cause)
 
 pub returns-in-Err-clause-exact : goal.returns-in-Err-clause-exact
-returns-in-Err-clause-exact g c = λ e cause some. told_files g.C.ElfClass.class (bytes_of c.args.files.now) c.in-Err.error e (returns-in-Err-clause-cause g c) cause some
+returns-in-Err-clause-exact g c = λ e cause some. told_files g.C.ElfClass.class (file_bytes c.args.files.now) c.in-Err.error e (returns-in-Err-clause-cause g c) cause some
 
 pub returns-in_err-push-in-Ok-clause-complete : goal.returns-in_err-push-in-Ok-clause-complete
-returns-in_err-push-in-Ok-clause-complete g c = λ os held plain. only_memory_in_files g.C.ElfClass.class (bytes_of c.args.files.now) os c.from_residual-in_err-push-in-Ok.result held plain (returns-in_err-push-in-Ok-clause-cause g c)
+returns-in_err-push-in-Ok-clause-complete g c = λ os held plain. only_memory_in_files g.C.ElfClass.class (file_bytes c.args.files.now) os c.from_residual-in_err-push-in-Ok.result held plain (returns-in_err-push-in-Ok-clause-cause g c)
 
 pub returns-in-Err-clause-complete : goal.returns-in-Err-clause-complete
-returns-in-Err-clause-complete g c = λ os held plain. no_files_cause g.C.ElfClass.class (bytes_of c.args.files.now) os c.in-Err.error held plain (returns-in-Err-clause-cause g c)
+returns-in-Err-clause-complete g c = λ os held plain. no_files_cause g.C.ElfClass.class (file_bytes c.args.files.now) os c.in-Err.error held plain (returns-in-Err-clause-cause g c)
 
 pub loop-object-preserved : goal.loop-object-preserved
 loop-object-preserved g c =
@@ -56,11 +56,11 @@ loop-object-preserved g c =
     let items : c.push.new.self.items ≡ c.loop-object.scans.items ++ c.in-Ok.scan ∷ [] = grind (arith, common_steps) in
     record {
       done = subst (λ fs. Scanned class fs c.args.placements.now c.push.new.self.items) (sym (take_next c.args.files.now i f (omega arith) c.index-files-object.is))
-          (scanned_more class (take i (bytes_of c.args.files.now)) c.args.placements.now c.loop-object.scans.items c.push.new.self.items f.bytes c.in-Ok.scan i (taken_length c.args.files.now i (omega arith)) items (subst (λ (x : Parsed). length x.bytes < 2 ^ 39) (sym c.index-files-object.is) (c.requires.small i f (omega arith))) (placed_few class f.bytes i c.args.placements.now c.requires.placements.in_order (names_sections_of class (bytes_of c.args.files.now) c.args.placements.now i f.bytes c.requires.placements (file_at c.args.files.now i f (omega arith) c.index-files-object.is))) c.loop-object.invariant.done c.in-Ok.ensures.scan);
+          (scanned_more class (take i (file_bytes c.args.files.now)) c.args.placements.now c.loop-object.scans.items c.push.new.self.items f.bytes c.in-Ok.scan i (taken_length c.args.files.now i (omega arith)) items (subst (λ (x : Parsed). length x.bytes < 2 ^ 39) (sym c.index-files-object.is) (c.requires.small i f (omega arith))) (placed_few class f.bytes i c.args.placements.now c.requires.placements.in_order (names_sections_of class (file_bytes c.args.files.now) c.args.placements.now i f.bytes c.requires.placements (file_at c.args.files.now i f (omega arith) c.index-files-object.is))) c.loop-object.invariant.done c.in-Ok.ensures.scan);
     }
 
 pub returns-clause-scans : goal.returns-clause-scans
-returns-clause-scans g c = scans_objects g.C.ElfClass.class (bytes_of c.args.files.now) c.args.placements.now c.loop-object.scans.items (subst (λ fs. Scanned g.C.ElfClass.class fs c.args.placements.now c.loop-object.scans.items) (take_all_files c.args.files.now c.loop-object.object (omega arith)) c.loop-object.invariant.done)
+returns-clause-scans g c = scans_objects g.C.ElfClass.class (file_bytes c.args.files.now) c.args.placements.now c.loop-object.scans.items (subst (λ fs. Scanned g.C.ElfClass.class fs c.args.placements.now c.loop-object.scans.items) (take_all_files c.args.files.now c.loop-object.object (omega arith)) c.loop-object.invariant.done)
 
 pub returns-clause-exact : goal.returns-clause-exact
-returns-clause-exact g c = λ e cause some. some (no_cause_in_scans g.C.ElfClass.class (bytes_of c.args.files.now) c.args.placements.now c.loop-object.scans.items e (returns-clause-scans g c) cause)
+returns-clause-exact g c = λ e cause some. some (no_cause_in_scans g.C.ElfClass.class (file_bytes c.args.files.now) c.args.placements.now c.loop-object.scans.items e (returns-clause-scans g c) cause)

@@ -1,7 +1,7 @@
 use Rattle.std.proofs.Common.{◌≡◌, ◌^◌, ◌≤◌, List, Option, subst, sym, ap, ◌∙◌, arith}
 use Rattle.gdb_index.specs.Scan.{Scan}
 use Rattle.gdb_index_format.specs.Named.{all_named, ListsPublished}
-use Rattle.gdb_index_format.specs.Published.{published, one_behind_another}
+use Rattle.gdb_index_format.specs.Published.{published, end_to_end}
 use Rattle.gdb_tables.specs.Groups.{groups}
 use Rattle.gdb_tables.specs.Merged.{AreSorted, IsMergeOf}
 use Rattle.gdb_tables.specs.Scan.{ObjectScan, unit_total, unit_counts, units_in_scans, placed_total, words_from}
@@ -17,7 +17,7 @@ new-requires c =
     let ns = all_named c.in_ok-names.names.items in
     let sorted : AreSorted (groups (words_from 0 ss)) ns = subst (λ gs. AreSorted gs ns) c.in_ok-words.ensures.words c.in_ok-names.ensures.sorted in
     sound_merge ss c.in_ok-units.units.items ns c.count_placed-placed.result c.in_ok-counts.counts.items
-    (c.in_ok-units.ensures ∙ ap (λ (xs : List (Option ObjectScan)). one_behind_another 0 (units_in_scans xs)) is) (c.in_ok-counts.ensures ∙ ap unit_counts is) few c.in_ok-words.ensures.sound sorted c.in_ok-names.ensures.fit
+    (c.in_ok-units.ensures ∙ ap (λ (xs : List (Option ObjectScan)). end_to_end 0 (units_in_scans xs)) is) (c.in_ok-counts.ensures ∙ ap unit_counts is) few c.in_ok-words.ensures.sound sorted c.in_ok-names.ensures.fit
 
 pub returns-clause-merged : goal.returns-clause-merged
 returns-clause-merged c =
@@ -28,7 +28,7 @@ returns-clause-merged c =
     let sorted : AreSorted (groups (words_from 0 ss)) ns = subst (λ gs. AreSorted gs ns) c.in_ok-words.ensures.words c.in_ok-names.ensures.sorted in
     subst (IsMergeOf ss) (sym c.new.ensures) record {
       few = few;
-      units = c.in_ok-units.ensures ∙ ap (λ (xs : List (Option ObjectScan)). one_behind_another 0 (units_in_scans xs)) is;
+      units = c.in_ok-units.ensures ∙ ap (λ (xs : List (Option ObjectScan)). end_to_end 0 (units_in_scans xs)) is;
       counts = c.in_ok-counts.ensures ∙ ap unit_counts is;
       placed = c.count_placed-placed.ensures ∙ ap placed_total is;
       names = lists_of_scans ss ns sorted;

@@ -1,5 +1,5 @@
 use Rattle.std.proofs.Common.{ℕ, ◌+◌, ◌++◌, drop, ap, ◌∙◌, arith}
-use Rattle.gdb_index_format.specs.Published.{one_behind_another}
+use Rattle.gdb_index_format.specs.Published.{end_to_end}
 use Rattle.gdb_index_format.specs.Units.{total_length}
 use Rattle.gdb_tables.specs.Scan.{units_in_scan, units_in_scans}
 use Rattle.gdb_tables.proofs.Merging.{units_step}
@@ -11,12 +11,12 @@ loop-scan-preserved c =
     let done = c.loop-scan.units.items in
     let place = c.loop-scan.place in
     let rest = units_in_scans (drop (c.loop-scan.scan-index + 1) c.args.scans.now) in
-    let units = c.in_ok-place.ensures.units ∙ ap (λ us. done ++ one_behind_another place us) c.units_of.ensures.units in
+    let units = c.in_ok-place.ensures.units ∙ ap (λ us. done ++ end_to_end place us) c.units_of.ensures.units in
     let ends = c.in_ok-place.ensures.end ∙ ap (λ us. place + total_length us) c.units_of.ensures.units in
     record {
       left =
-          ap (λ us. us ++ one_behind_another c.in_ok-place.place rest) units
-          ∙ ap (λ (n : ℕ). (done ++ one_behind_another place (units_in_scan s)) ++ one_behind_another n rest) ends
+          ap (λ us. us ++ end_to_end c.in_ok-place.place rest) units
+          ∙ ap (λ (n : ℕ). (done ++ end_to_end place (units_in_scan s)) ++ end_to_end n rest) ends
           ∙ units_step done _ place c.args.scans.now c.loop-scan.scan-index s c.loop-scan-test.true c.scan-item.is c.loop-scan.invariant.left;
       small = omega (arith, c.in_ok-place.ensures.end, c.units_of.ensures.small, c.loop-scan.invariant.small);
     }
