@@ -1,0 +1,97 @@
+//! The bytes of an object: its header, its sections without gaps, and the section header table.
+
+use crate::section::{Section, plain};
+use elf_words::SHT_STRTAB;
+use std::alloc::{AllocError, Global};
+
+/// The `e_type` of a relocatable file.
+pub const ET_REL: u16 = 1;
+
+/// The sections of an object so far.
+#[derive(Drop)]
+struct Parts {
+    /// The bytes of the sections, which follow the file header.
+    body: Vec<u8>,
+    /// The section header table.
+    table: Vec<u8>,
+    /// The section names, each with a zero byte after it.
+    names: Vec<u8>,
+}
+
+impl Parts {
+    /// Returns the null section header and the empty name.
+    fn new(alloc: Global) -> Result<Parts, AllocError> {
+        let table = vec![in alloc; 0u8; 64]?;
+        let names = vec![in alloc; 0u8; 1]?;
+        Ok(Parts {
+            body: Vec::new(alloc),
+            table,
+            names,
+        })
+    }
+
+    /// Returns the offset in the file of the first byte after the sections.
+    fn end(&self) -> u64 {
+        (self.body.len() as u64).saturating_add(64)
+    }
+
+    /// Appends a section.
+    fn push(&mut self, section: &Section<'_>) -> Result<(), AllocError> {
+        let name = u32::try_from(self.names.len()).unwrap_or(u32::MAX);
+        let offset = self.end();
+        self.table.extend_from_slice(&name.to_le_bytes())?;
+        self.table
+            .extend_from_slice(&section.section_type.to_le_bytes())?;
+        for number in [section.flags, 0, offset, section.bytes.len() as u64] {
+            self.table.extend_from_slice(&number.to_le_bytes())?;
+        }
+        self.table.extend_from_slice(&section.link.to_le_bytes())?;
+        self.table.extend_from_slice(&section.info.to_le_bytes())?;
+        for number in [1, section.entry_size] {
+            self.table.extend_from_slice(&number.to_le_bytes())?;
+        }
+        self.names.extend_from_slice(section.name)?;
+        self.names.push(0)?;
+        self.body.extend_from_slice(section.bytes)
+    }
+
+    /// Appends the section that holds the section names, its own included.
+    fn push_names(&mut self, alloc: Global) -> Result<(), AllocError> {
+        let mut names = self.names.as_slice().to_vec(alloc)?;
+        names.extend_from_slice(b".shstrtab\0")?;
+        self.push(&Section {
+            section_type: SHT_STRTAB,
+            ..plain(b".shstrtab", 0, &names)
+        })
+    }
+}
+
+/// Returns an object with a null section header, these sections and `.shstrtab`. At most 65,533 sections are
+/// counted right.
+pub fn object(
+    alloc: Global,
+    file_type: u16,
+    machine: u16,
+    sections: &[Section<'_>],
+) -> Result<Vec<u8>, AllocError> {
+    let mut parts = Parts::new(alloc)?;
+    for section in sections {
+        parts.push(section)?;
+    }
+    parts.push_names(alloc)?;
+    let last = u16::try_from(sections.len())
+        .unwrap_or(u16::MAX)
+        .saturating_add(1);
+    let mut object = b"\x7fELF\x02\x01\x01\0\0\0\0\0\0\0\0\0".to_vec(alloc)?;
+    object.extend_from_slice(&file_type.to_le_bytes())?;
+    object.extend_from_slice(&machine.to_le_bytes())?;
+    object.extend_from_slice(&[1, 0, 0, 0])?;
+    object.extend_from_slice(&[0; 16])?;
+    object.extend_from_slice(&parts.end().to_le_bytes())?;
+    object.extend_from_slice(&[0, 0, 0, 0, 64, 0, 0, 0, 0, 0, 64, 0])?;
+    object.extend_from_slice(&last.saturating_add(1).to_le_bytes())?;
+    object.extend_from_slice(&last.to_le_bytes())?;
+    object.extend_from_slice(&parts.body)?;
+    object.extend_from_slice(&parts.table)?;
+    Ok(object)
+}
