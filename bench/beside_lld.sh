@@ -2,7 +2,7 @@
 # Counts the instructions that `derive` spends on the objects of FOLDER, reading and printing included, beside those that
 # lld spends on its own index of them: `bench/beside_lld.sh DERIVE FOLDER`, with FOLDER as `bench/compiled_objects.sh`
 # makes it. Those of lld are the difference between linking with `--gdb-index` and without, on one thread. The names and
-# words of both are compared.
+# CU vectors of both are compared.
 set -euo pipefail
 derive=$1
 folder=$2

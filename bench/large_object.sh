@@ -5,9 +5,7 @@ set -eu
 size=$1
 . "$(dirname "$0")/../sample/bytes.sh"
 
-printf '\x7fELF\x02\x01\x01'; zeros 9
-number 2 1; number 2 62; number 4 1; zeros 16; number 8 $((64 + size + 23))
-number 4 0; number 2 64; zeros 4; number 2 64; number 2 3; number 2 2
+header 3 $((64 + size + 23))
 number 4 $((size - 4)); zeros $((size - 4))
 printf '\0.debug_info\0.shstrtab\0'
 zeros 64

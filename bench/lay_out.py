@@ -1,8 +1,8 @@
 #!/usr/bin/env python3
 """Prints a layout of objects: `bench/lay_out.py OBJECT.. >LAYOUT`.
 
-Sections that take memory and hold instructions stand one behind another from 0x400000 on, at steps of 16 bytes, object by
-object, in the order of their headers (System V gABI, "Sections"). The objects are of class 64, in little endian order.
+Sections that take memory and hold instructions follow one another from 0x400000 on, at steps of 16 bytes, object by
+object, in the order of their headers (System V gABI, "Sections"). The objects are little endian, of ELFCLASS64.
 """
 
 import struct

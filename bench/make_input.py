@@ -4,7 +4,7 @@
     bench/make_input.py FOLDER objects OBJECTS NAMES        NAMES names an object, half of them the same in all
     bench/make_input.py FOLDER units UNITS                  one object with so many units, and one name a unit
     bench/make_input.py FOLDER relocations UNITS RECORDS    one object, a placed section of code a unit, and RECORDS
-                                                            relocation records of `.debug_info` that tell the units
+                                                            relocations of `.debug_info` that assign them
     bench/make_input.py FOLDER sections SECTIONS            one object with so many placed sections of code
     bench/make_input.py FOLDER overlaps SECTIONS BYTES      one object with so many sections, whose names are ends of one
                                                             name of so many bytes
@@ -12,7 +12,7 @@
     bench/make_input.py FOLDER sframe FUNCTIONS RANGES      no object; so many functions, in random order, in so many
                                                             contributions
 
-The same words make the same bytes. `bench/measure.py` runs the program on such a folder.
+The same arguments make the same bytes. `bench/measure.py` runs the program on such a folder.
 """
 
 import pathlib
@@ -29,7 +29,7 @@ ALLOC_AND_EXECUTE = 6
 
 
 class Section:
-    """A section of an object (System V gABI, "Sections"). Its name is bytes, or the place of an end of an earlier name."""
+    """A section of an object (System V gABI, "Sections"). Its name is bytes, or the offset of an end of an earlier name."""
 
     def __init__(self, name, kind, data, flags=0, link=0, info=0, entry=0):
         self.name, self.kind, self.data, self.flags = name, kind, data, flags
@@ -37,16 +37,16 @@ class Section:
 
 
 def object_of(sections):
-    """The relocatable object for x86-64 with these sections behind section 0, and the names of all as the last."""
+    """The relocatable object for x86-64 with these sections after section 0, and their names last."""
     names = bytearray(b"\0")
-    places = []
+    offsets = []
     for name in [section.name for section in sections] + [b".shstrtab"]:
-        places.append(name if isinstance(name, int) else len(names))
+        offsets.append(name if isinstance(name, int) else len(names))
         names += b"" if isinstance(name, int) else name + b"\0"
     body, headers = bytearray(), bytearray(64)
-    for place, section in zip(places, sections + [Section(b".shstrtab", STRTAB, names)]):
+    for offset, section in zip(offsets, sections + [Section(b".shstrtab", STRTAB, names)]):
         headers += struct.pack(
-            "<IIQQQQIIQQ", place, section.kind, section.flags, 0, 64 + len(body), len(section.data),
+            "<IIQQQQIIQQ", offset, section.kind, section.flags, 0, 64 + len(body), len(section.data),
             section.link, section.info, 1, section.entry)
         body += section.data
     header = b"\x7fELF\x02\x01\x01".ljust(16, b"\0") + struct.pack(
@@ -61,7 +61,7 @@ def units_of(count, size=UNIT_SIZE):
 
 def set_of(unit, size, names):
     """The set of names of the unit at an offset (GDB manual, "Index Section Format", on `.debug_gnu_pubnames`)."""
-    entries = b"".join(struct.pack("<IB", 16 + place, 0x30) + name + b"\0" for place, name in enumerate(names))
+    entries = b"".join(struct.pack("<IB", 16 + index, 0x30) + name + b"\0" for index, name in enumerate(names))
     body = struct.pack("<HII", 2, unit, size) + entries + bytes(4)
     return struct.pack("<I", len(body)) + body
 
@@ -75,7 +75,7 @@ def objects(count, names):
     shared = [b"shared::name_%06d" % number for number in range(names // 2)]
     files, layout = [], ""
     for number in range(count):
-        own = [b"object_%04d::name_%06d" % (number, place) for place in range(names - len(shared))]
+        own = [b"object_%04d::name_%06d" % (number, index) for index in range(names - len(shared))]
         files.append(object_of([
             Section(b".debug_info", PROGBITS, units_of(1)),
             Section(b".debug_gnu_pubnames", PROGBITS, set_of(0, UNIT_SIZE, shared + own)),
@@ -96,12 +96,12 @@ def units(count):
 
 
 def symbols_of(sections):
-    """A symbol for each of these sections behind symbol 0 (System V gABI, "Symbol Table")."""
+    """A symbol for each of these sections, after symbol 0 (System V gABI, "Symbol Table")."""
     return bytes(24) + b"".join(struct.pack("<IBBHQQ", 0, 3, 0, section, 0, 0) for section in sections)
 
 
 def relocations(count, records):
-    """One object whose relocation records of `.debug_info` tell the unit of each of its placed sections of code."""
+    """One object whose relocations of `.debug_info` assign each of its placed sections of code to a unit."""
     each = records // count
     size = 16 + 8 * each
     told = b"".join(
@@ -148,14 +148,14 @@ def alike(count):
 
 
 def contribution(starts):
-    """Functions with two rows of three bytes each, which start at these values (SFrame 2)."""
-    rows = bytes([0, 3, 8, 1, 3, 16])
+    """Functions with two FREs of three bytes each, which start at these values (SFrame 2)."""
+    fres = bytes([0, 3, 8, 1, 3, 16])
     header = struct.pack(
-        "<HBBBbbBIIIII", 0xdee2, 2, 0, 3, 0, -8, 0, len(starts), 2 * len(starts), len(rows) * len(starts), 0,
+        "<HBBBbbBIIIII", 0xdee2, 2, 0, 3, 0, -8, 0, len(starts), 2 * len(starts), len(fres) * len(starts), 0,
         20 * len(starts))
-    descriptors = b"".join(
-        struct.pack("<iIIIBBH", start, CODE_SIZE, len(rows) * place, 2, 0, 0, 0) for place, start in enumerate(starts))
-    return header + descriptors + rows * len(starts)
+    fdes = b"".join(
+        struct.pack("<iIIIBBH", start, CODE_SIZE, len(fres) * index, 2, 0, 0, 0) for index, start in enumerate(starts))
+    return header + fdes + fres * len(starts)
 
 
 def sframe(functions, ranges):
@@ -177,12 +177,12 @@ KINDS = {
 }
 
 
-def main(words):
-    if len(words) < 2 or words[1] not in KINDS or len(words) != 2 + KINDS[words[1]][1]:
+def main(arguments):
+    if len(arguments) < 2 or arguments[1] not in KINDS or len(arguments) != 2 + KINDS[arguments[1]][1]:
         sys.exit(__doc__)
-    folder = pathlib.Path(words[0])
+    folder = pathlib.Path(arguments[0])
     folder.mkdir(parents=True, exist_ok=True)
-    files, layout, frames = KINDS[words[1]][0](*map(int, words[2:]))
+    files, layout, frames = KINDS[arguments[1]][0](*map(int, arguments[2:]))
     for number, file in enumerate(files):
         (folder / f"{number:05}.o").write_bytes(file)
     if frames:

@@ -16,14 +16,14 @@ import sys
 import tempfile
 
 
-def run(words, report):
+def run(arguments, report):
     """The processor's time, the time on the clock and the peak of memory, in bytes, of a run."""
     report.seek(0)
     report.truncate()
     with tempfile.NamedTemporaryFile("r") as taken:
-        status = subprocess.call(["time", "-q", "-f", "%U %S %e %M", "-o", taken.name] + words, stdout=report)
+        status = subprocess.call(["time", "-q", "-f", "%U %S %e %M", "-o", taken.name] + arguments, stdout=report)
         if status != 0:
-            sys.exit(f"{words[0]} ended with status {status}")
+            sys.exit(f"{arguments[0]} ended with status {status}")
         user, system, clock, peak = map(float, taken.read().split())
     return user + system, clock, 1024 * peak
 
@@ -33,15 +33,15 @@ def main(derive, folder, runs=3):
         sys.exit("no GNU time")
     folder = pathlib.Path(folder)
     layout, frames, objects = folder / "layout", folder / "sframe", sorted(folder.glob("*.o"))
-    words = [derive, "tables", "x86_64", str(layout)]
+    arguments = [derive, "tables", "x86_64", str(layout)]
     inputs = [layout] + objects
     if frames.exists():
-        words += ["--sframe", str(frames)]
+        arguments += ["--sframe", str(frames)]
         inputs.append(frames)
-    words += map(str, objects)
+    arguments += map(str, objects)
     size = sum(path.stat().st_size for path in inputs)
     with tempfile.TemporaryFile() as report:
-        taken = [run(words, report) for _ in range(int(runs))]
+        taken = [run(arguments, report) for _ in range(int(runs))]
         written = report.seek(0, 2)
     processor, clock, _ = min(taken)
     memory = max(peak for _, _, peak in taken)

@@ -1,5 +1,5 @@
 #!/usr/bin/env python3
-"""Whether a report has the names and the words that lld's index has: `bench/same_as_lld.py LINKED <REPORT`.
+"""Whether a report has the names and the CU vectors that lld's index has: `bench/same_as_lld.py LINKED <REPORT`.
 
 LINKED is what `ld.lld --gdb-index` made of the same objects in the same order, and REPORT what `derive tables` writes.
 """
@@ -9,11 +9,11 @@ import sys
 
 sys.dont_write_bytecode = True
 
-from looks import read_report
+from probe_steps import read_report
 
 
 def section_of(data, wanted):
-    """The bytes of the section of a name (System V gABI, "Sections"), in a file of class 64."""
+    """The bytes of the section of a name (System V gABI, "Sections"), in a file of ELFCLASS64."""
     table, = struct.unpack_from("<Q", data, 40)
     count, names = struct.unpack_from("<HH", data, 60)
     headers = [struct.unpack_from("<IIQQQQ", data, table + 64 * number) for number in range(count)]
@@ -25,7 +25,7 @@ def section_of(data, wanted):
 
 
 def names_of(index):
-    """The names of an index of version 7 or 8, each with its words (GDB manual, "Index Section Format")."""
+    """The names of an index of version 7 or 8, each with its CU vector (GDB manual, "Index Section Format")."""
     table, pool = struct.unpack_from("<II", index, 16)
     names = {}
     for slot in range(table, pool, 8):
@@ -44,8 +44,8 @@ def main():
         expected = names_of(section_of(file.read(), b".gdb_index"))
     names = dict(read_report(sys.stdin)[0])
     if names != expected:
-        sys.exit(f"{len(names)} names, and {len(expected)} in lld's index, or other words")
-    print(f"{len(names)} names, each with the words that it has in lld's index")
+        sys.exit(f"{len(names)} names, and {len(expected)} in lld's index, or other CU vectors")
+    print(f"{len(names)} names, each with the CU vector that it has in lld's index")
 
 
 main()

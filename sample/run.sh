@@ -1,10 +1,9 @@
 #!/usr/bin/env bash
-# Makes a small object, and prints the report of the tables that are derived from it.
+# Makes the sample's input, and prints the report of the tables that are derived from it.
 set -eu
 top=$(cd "$(dirname "$0")/.." && pwd)
+. "$top/sample/derive.sh"
 work=$(mktemp -d)
 trap 'rm -rf "$work"' EXIT
-bash "$top/sample/make_object.sh" >"$work/one.o"
-printf '# no section is placed\n' >"$work/layout"
-cd "$top/crates/derive"
-rt try -- tables x86_64 "$work/layout" "$work/one.o"
+bash "$top/sample/make_input.sh" "$work"
+derive tables x86_64 "$work/layout" --sframe "$work/sframe" "$work/one.o" "$work/two.o"
