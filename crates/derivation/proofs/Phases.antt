@@ -1,6 +1,6 @@
 -- An input is refused for one cause, that of the first condition which does not hold; a valid one for none.
-use Rattle.gdb_tables.specs.declared.error.GdbError.{GdbError}
-use Rattle.gdb_tables.specs.declared.error.GdbError.TheVariants as gdb
+use Rattle.gdb_scan.specs.declared.error.GdbError.{GdbError}
+use Rattle.gdb_scan.specs.declared.error.GdbError.TheVariants as gdb
 use Rattle.gdb_tables.specs.Misplaced.{misplaced}
 use Rattle.sframe_format.specs.declared.fault.SframeFault.{SframeFault}
 use Rattle.sframe_format.specs.declared.fault.SframeFault.TheVariants as faults

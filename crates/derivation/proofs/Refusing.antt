@@ -2,8 +2,8 @@
 use Rattle.std.proofs.Common.{◌≡◌, ◌≢◌, ◌⊎◌, ℕ, List, refl, ◌∙◌, inl, inr}
 use Rattle.elf_format.specs.declared.index.Span.{Span}
 use Rattle.gdb_index_format.specs.declared.placement.Placement.{Placement}
-use Rattle.gdb_tables.specs.declared.error.GdbError.{GdbError}
-use Rattle.gdb_tables.specs.declared.error.GdbError.TheVariants as gdb
+use Rattle.gdb_scan.specs.declared.error.GdbError.{GdbError}
+use Rattle.gdb_scan.specs.declared.error.GdbError.TheVariants as gdb
 use Rattle.gdb_tables.specs.Sized.{IsSizeCause}
 use Rattle.elf_format.specs.Class.{class64}
 use Rattle.sframe_format.specs.declared.fault.SframeFault.{SframeFault}

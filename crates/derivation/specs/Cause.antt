@@ -8,8 +8,8 @@ use Rattle.elf_view.specs.Parsed.{Parsed}
 use Rattle.gdb_index_format.specs.declared.placement.Placement.{Placement}
 use Rattle.gdb_index_format.specs.Objects.{AreObjectsOf}
 use Rattle.gdb_index_format.specs.Published.{Object}
-use Rattle.gdb_tables.specs.declared.error.GdbError.{GdbError}
-use Rattle.gdb_tables.specs.declared.error.GdbError.TheVariants as gdb
+use Rattle.gdb_scan.specs.declared.error.GdbError.{GdbError}
+use Rattle.gdb_scan.specs.declared.error.GdbError.TheVariants as gdb
 use Rattle.gdb_tables.specs.Addresses.{first_relocation_fault}
 use Rattle.gdb_tables.specs.Files as files
 use Rattle.gdb_tables.specs.Misplaced.{misplaced}

@@ -11,7 +11,7 @@ use Rattle.std.proofs.lemmas.Option.{slice_get-get_or}
 use Rattle.elf_format.specs.Class.{Class}
 use Rattle.elf_format.specs.Section.{sections}
 use Rattle.elf_view.specs.Parsed.{Parsed}
-use Rattle.gdb_addresses.proofs.Telling.{front}
+use Rattle.gdb_scan.proofs.Telling.{front}
 use Rattle.gdb_index_format.specs.declared.placement.Placement.{Placement}
 use Rattle.gdb_index_format.specs.declared.placement.AddressEntry.{AddressEntry}
 use Rattle.gdb_index_format.specs.Published.{Object, units_in_objects, units_of_all}
@@ -20,11 +20,11 @@ use Rattle.gdb_index_format.specs.Placed.{is_code, has_unit, counts_in}
 use Rattle.gdb_index_format.specs.Placed.{placed as placements_that_count}
 use Rattle.gdb_index_format.specs.Addresses.{unit_of_section, unit_relocation_fault}
 use Rattle.gdb_tables.specs.Addresses.{unit_in, address_entry, addresses, fault_from, first_relocation_fault, entry_at, has_entry, entries_of, IsEntriesCause, IsAddressCause}
-use Rattle.gdb_tables.specs.declared.error.GdbError.{GdbError}
-use Rattle.gdb_tables.specs.declared.error.GdbError.TheVariants.{BadElf, CompressedSection, BadUnit, BadPubnames, TooManyUnits, IndexTooLarge, NoMemory}
+use Rattle.gdb_scan.specs.declared.error.GdbError.{GdbError}
+use Rattle.gdb_scan.specs.declared.error.GdbError.TheVariants.{BadElf, CompressedSection, BadUnit, BadPubnames, TooManyUnits, IndexTooLarge, NoMemory}
 use Rattle.gdb_tables.specs.Files.{file_bytes, IsThere, ArePlacedIn}
-use Rattle.gdb_tables.specs.PlacedIn.{of_object}
-use Rattle.gdb_tables.proofs.Windows.{objects_do_not_fall}
+use Rattle.gdb_scan.specs.PlacedIn.{of_object}
+use Rattle.gdb_scan.proofs.Windows.{objects_do_not_fall}
 use Rattle.gdb_tables.proofs.Merging.{length-placed}
 use Rattle.gdb_tables.proofs.Picking.{picks, two_tests, picks_alike, picks_none, passes_same, passes_none, passes_all, passes_few}
 

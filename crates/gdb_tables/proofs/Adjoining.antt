@@ -9,10 +9,10 @@ use Rattle.elf_format.specs.declared.error.ElfError.{ElfError}
 use Rattle.elf_format.specs.declared.crel.Crel.{Crel}
 use Rattle.elf_format.specs.Class.{Class}
 use Rattle.elf_view.specs.Parsed.{Parsed}
-use Rattle.gdb_addresses.specs.declared.error.MapError.{MapError}
-use Rattle.gdb_addresses.specs.declared.error.MapError.TheVariants.{Elf}
-use Rattle.gdb_addresses.specs.declared.error.MapError.TheVariants as maps
-use Rattle.gdb_addresses.specs.Cause.{IsMapCause}
+use Rattle.gdb_scan.specs.declared.map_error.MapError.{MapError}
+use Rattle.gdb_scan.specs.declared.map_error.MapError.TheVariants.{Elf}
+use Rattle.gdb_scan.specs.declared.map_error.MapError.TheVariants as maps
+use Rattle.gdb_scan.specs.MapCause.{IsMapCause}
 use Rattle.gdb_index_format.specs.Addresses.{unit_relocations, assigns, assigned_unit, section_unit, unit_of_section, relocation_fault, unit_relocation_fault}
 use Rattle.gdb_index_format.specs.declared.unit.CuBoundary.{CuBoundary}
 use Rattle.gdb_index_format.specs.declared.placement.Placement.{Placement}
@@ -20,13 +20,13 @@ use Rattle.gdb_index_format.specs.Placed.{has_unit}
 use Rattle.gdb_index_format.specs.Units.{total_length, holds_offset, unit_holding}
 use Rattle.gdb_index_format.specs.Objects.{info_section, IsUnitsOf}
 use Rattle.gdb_index_format.proofs.UnitLists.{Tiles, Tiles-from_front}
-use Rattle.gdb_sections.proofs.UnitSearching.{no_unit}
-use Rattle.gdb_sections.specs.UnitSearch.{AreAdjacent}
-use Rattle.gdb_tables.specs.declared.error.GdbError.{GdbError}
-use Rattle.gdb_tables.specs.declared.error.GdbError.TheVariants.{BadElf, CompressedSection, BadUnit, BadPubnames, TooManyUnits, IndexTooLarge, NoMemory}
+use Rattle.dwarf_sections.proofs.UnitSearching.{no_unit}
+use Rattle.dwarf_sections.specs.UnitSearch.{AreAdjacent}
+use Rattle.gdb_scan.specs.declared.error.GdbError.{GdbError}
+use Rattle.gdb_scan.specs.declared.error.GdbError.TheVariants.{BadElf, CompressedSection, BadUnit, BadPubnames, TooManyUnits, IndexTooLarge, NoMemory}
 use Rattle.gdb_tables.specs.Addresses.{entry_at, has_entry, entries_at, entries_of, of_map_error, IsEntriesCause}
-use Rattle.gdb_tables.specs.Cause.{IsOnlyMemory}
-use Rattle.gdb_tables.proofs.Sounding.{info_short}
+use Rattle.gdb_scan.specs.Cause.{IsOnlyMemory}
+use Rattle.gdb_scan.proofs.Sounding.{info_short}
 
 next_adjoins : (b : List ℕ) (at : ℕ) (us : List CuBoundary) → Tiles b at us → (k : ℕ) (d : CuBoundary) → k + 1 < length us → (get_or us (k + 1) d).offset ≡ (get_or us k d).offset + (get_or us k d).length
 next_adjoins b at [] t k d l = absurd (omega arith)

@@ -11,10 +11,11 @@ use Rattle.gdb_index.specs.Pool.{names_len, name_len}
 use Rattle.gdb_index_format.specs.declared.unit.CuBoundary.{CuBoundary}
 use Rattle.gdb_index_format.specs.Named.{Named, ListsPublished}
 use Rattle.gdb_index_format.specs.Published.{Object, Pair, firsts, first_names, units_in_objects}
-use Rattle.gdb_tables.specs.Groups.{names_of, values_of}
-use Rattle.gdb_tables.specs.Scan.{ObjectScan, unit_counts, units_in_scans, AreScansOf}
-use Rattle.gdb_tables.proofs.Grouping.{Name, others, others-same, others-kept, same_from, eq_same, differ-sym, Lacks, Differ, Differ-firsts, Lacks-from_firsts, value-same, value-other, values_absent}
-use Rattle.gdb_tables.proofs.Pairing.{others-lacks}
+use Rattle.gdb_scan.specs.Groups.{names_of, values_of}
+use Rattle.gdb_scan.specs.Scan.{ObjectScan}
+use Rattle.gdb_tables.specs.Scans.{unit_counts, units_in_scans, AreScansOf}
+use Rattle.gdb_scan.proofs.Grouping.{Name, others, others-same, others-kept, same_from, eq_same, differ-sym, Lacks, Differ, Differ-firsts, Lacks-from_firsts, value-same, value-other, values_absent}
+use Rattle.gdb_scan.proofs.Pairing.{others-lacks}
 use Rattle.gdb_tables.proofs.Publishing.{as_pair, as_pairs}
 use Rattle.gdb_tables.proofs.Listing.{words_are}
 use Rattle.gdb_tables.proofs.Weighing.{pair_weight}

@@ -13,12 +13,13 @@ use Rattle.gdb_index_format.specs.Objects.{AreObjectsOf}
 use Rattle.gdb_index_format.specs.Placed.{placed}
 use Rattle.gdb_index_format.specs.Size.{Counts, IsSize, counts_of, size_with}
 use Rattle.gdb_index_format.proofs.Sizing.{sizes_are_one_lem}
-use Rattle.gdb_tables.specs.declared.error.GdbError.{GdbError}
-use Rattle.gdb_tables.specs.declared.error.GdbError.TheVariants.{BadElf, CompressedSection, BadUnit, BadPubnames, TooManyUnits, IndexTooLarge, NoMemory}
+use Rattle.gdb_scan.specs.declared.error.GdbError.{GdbError}
+use Rattle.gdb_scan.specs.declared.error.GdbError.TheVariants.{BadElf, CompressedSection, BadUnit, BadPubnames, TooManyUnits, IndexTooLarge, NoMemory}
 use Rattle.gdb_tables.specs.Files as files_spec
 use Rattle.gdb_tables.specs.Files.{ScansObjects, IsFilesCause}
 use Rattle.gdb_tables.specs.Merged.{IsMergeOf, IsMergeCause}
-use Rattle.gdb_tables.specs.Scan.{ObjectScan, AreScansOf, unit_total, units_in_scans}
+use Rattle.gdb_scan.specs.Scan.{ObjectScan}
+use Rattle.gdb_tables.specs.Scans.{AreScansOf, unit_total, units_in_scans}
 use Rattle.gdb_tables.specs.Sized.{SizesIndex, IsSizeCause, in_object, too_many, too_large, no_memory}
 use Rattle.gdb_tables.proofs.Merging.{unit_number_of}
 use Rattle.gdb_tables.proofs.Counting.{words_counted, bytes_counted, names_counted, words_small, bytes_small, names_small, units_of_scans, counts_of_scans, as_many}

@@ -7,11 +7,12 @@ use Rattle.std.proofs.lemmas.Bool.{cases_Bool, cond-true, cond-false}
 use Rattle.std.proofs.lemmas.List.Sorted.{length_permutation}
 use Rattle.gdb_index_format.specs.Published.{Object, Pair, published, elements_in_order, IsVectorOf, firsts}
 use Rattle.gdb_index_format.specs.Named.{Named, AreDistinct, IsNamed, ListsPublished}
-use Rattle.gdb_tables.specs.Groups.{names_of, values_of, groups}
-use Rattle.gdb_tables.specs.Scan.{ObjectScan, words_from, pair_in, published_in_scans, AreScansOf}
+use Rattle.gdb_scan.specs.Groups.{names_of, values_of, groups}
+use Rattle.gdb_scan.specs.Scan.{ObjectScan}
+use Rattle.gdb_tables.specs.Scans.{words_from, pair_in, published_in_scans, AreScansOf}
 use Rattle.gdb_tables.specs.Merged.{AreSorted}
-use Rattle.gdb_tables.proofs.Grouping.{Name, same_from, eq_same, Lacks, Differ, Differ-firsts, Lacks-from_firsts, value-same, value-other, tabled}
-use Rattle.gdb_tables.proofs.Pairing.{groups_alike, HaveSome, HaveSome-firsts}
+use Rattle.gdb_scan.proofs.Grouping.{Name, same_from, eq_same, Lacks, Differ, Differ-firsts, Lacks-from_firsts, value-same, value-other, tabled}
+use Rattle.gdb_scan.proofs.Pairing.{groups_alike, HaveSome, HaveSome-firsts}
 use Rattle.gdb_tables.proofs.Publishing.{as_pair, as_pairs, scans_published}
 
 -- the values of a name among pairs are its words

@@ -13,15 +13,16 @@ use Rattle.gdb_index_format.specs.declared.unit.CuBoundary.{CuBoundary}
 use Rattle.gdb_index_format.specs.Named.{Named}
 use Rattle.gdb_index_format.specs.Published.{end_to_end, firsts}
 use Rattle.gdb_index_format.specs.Units.{total_length}
-use Rattle.gdb_tables.specs.declared.mark.Mark.{Mark}
-use Rattle.gdb_tables.specs.declared.mark.NameMarks.{NameMarks}
-use Rattle.gdb_tables.specs.Groups.{names_of, values_of, groups, add_all, add_list}
-use Rattle.gdb_tables.specs.Marks.{group_of, groups_in}
+use Rattle.gdb_scan.specs.declared.mark.Mark.{Mark}
+use Rattle.gdb_scan.specs.declared.mark.NameMarks.{NameMarks}
+use Rattle.gdb_scan.specs.Groups.{names_of, values_of, groups, add_all, add_list}
+use Rattle.gdb_scan.specs.Marks.{group_of, groups_in}
 use Rattle.gdb_tables.specs.Merged.{AreSorted, HaveSmallWords}
-use Rattle.gdb_tables.specs.Scan.{ObjectScan, IsObjectName, HasSoundNames, units_in_scan, names_in_scan, placed_in_scan, unit_counts, unit_total, units_in_scans, placed_total, mark_word, words_at, words_of_groups, words_from}
-use Rattle.gdb_tables.proofs.Grouping.{Name, groups-add_all, add_all-append, add_all-is_list, tabled}
-use Rattle.gdb_tables.proofs.Pairing.{HaveSome, HaveSome-firsts}
-use Rattle.gdb_tables.proofs.Sounding.{each_from_All, All-from_each, each-append, each-firsts, each-values}
+use Rattle.gdb_scan.specs.Scan.{ObjectScan, IsObjectName, HasSoundNames, units_in_scan, names_in_scan, placed_in_scan}
+use Rattle.gdb_tables.specs.Scans.{unit_counts, unit_total, units_in_scans, placed_total, mark_word, words_at, words_of_groups, words_from}
+use Rattle.gdb_scan.proofs.Grouping.{Name, groups-add_all, add_all-append, add_all-is_list, tabled}
+use Rattle.gdb_scan.proofs.Pairing.{HaveSome, HaveSome-firsts}
+use Rattle.gdb_scan.proofs.Sounding.{each_from_All, All-from_each, each-append, each-firsts, each-values}
 
 abbrev pub Scans : Type 0
 Scans = List (Option ObjectScan)

@@ -7,7 +7,7 @@ use Rattle.std.proofs.lemmas.List.Kept.{AllPairs-cons}
 use Rattle.elf_format.specs.Class.{Class}
 use Rattle.elf_format.proofs.SearchLemmas.{position_is_from}
 use Rattle.gdb_index_format.specs.declared.placement.Placement.{Placement}
-use Rattle.gdb_tables.specs.PlacedIn.{IsBefore}
+use Rattle.gdb_scan.specs.PlacedIn.{IsBefore}
 use Rattle.gdb_tables.specs.Files.{IsThere, ArePlacedIn}
 use Rattle.gdb_tables.specs.Misplaced.{is_behind, is_there, is_in_place, with_before, misplaced}
 

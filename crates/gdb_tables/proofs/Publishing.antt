@@ -6,13 +6,14 @@ use Rattle.gdb_index_format.specs.declared.unit.CuBoundary.{CuBoundary}
 use Rattle.gdb_index_format.specs.Hash.{element_of}
 use Rattle.gdb_index_format.specs.Names.{Entry, NameSet}
 use Rattle.gdb_index_format.specs.Published.{Object, Pair, pairs_at, pairs_of, published_from}
-use Rattle.gdb_sections.specs.UnitSearch.{unit_at}
-use Rattle.gdb_tables.specs.declared.mark.Mark.{Mark}
-use Rattle.gdb_tables.specs.Groups.{groups}
-use Rattle.gdb_tables.specs.Marks.{marks_at, marks_in, marks_of}
-use Rattle.gdb_tables.specs.Scan.{ObjectScan, units_in_scan, names_in_scan, mark_word, words_at, words_of_groups, words_from, IsScanOf, AreScansOf}
-use Rattle.gdb_tables.proofs.Grouping.{Name}
-use Rattle.gdb_tables.proofs.Pairing.{Alike, Alike-append, Alike-mapped, Alike-ungrouped, mapped, tagged, ungrouped}
+use Rattle.dwarf_sections.specs.UnitSearch.{unit_at}
+use Rattle.gdb_scan.specs.declared.mark.Mark.{Mark}
+use Rattle.gdb_scan.specs.Groups.{groups}
+use Rattle.gdb_scan.specs.Marks.{marks_at, marks_in, marks_of}
+use Rattle.gdb_scan.specs.Scan.{ObjectScan, units_in_scan, names_in_scan, IsScanOf}
+use Rattle.gdb_tables.specs.Scans.{mark_word, words_at, words_of_groups, words_from, AreScansOf}
+use Rattle.gdb_scan.proofs.Grouping.{Name}
+use Rattle.gdb_scan.proofs.Pairing.{Alike, Alike-append, Alike-mapped, Alike-ungrouped, mapped, tagged, ungrouped}
 
 abbrev pub as_pair : Pair → Name × ℕ
 as_pair p = (p.name, p.word)

@@ -13,11 +13,12 @@ use Rattle.gdb_index_format.specs.declared.placement.Placement.{Placement}
 use Rattle.gdb_index_format.specs.Published.{Object}
 use Rattle.gdb_index_format.specs.Objects.{IsObjectOf, AreObjectsOf, first_compressed}
 use Rattle.gdb_index_format.specs.Placed.{has_unit, counts_in, placed}
-use Rattle.gdb_tables.specs.declared.error.GdbError.{GdbError}
-use Rattle.gdb_tables.specs.Cause.{IsScanCause}
-use Rattle.gdb_tables.specs.PlacedIn.{NameSections, of_object, is_counted, placed_in}
-use Rattle.gdb_tables.specs.Scan.{ObjectScan, IsScanOf, AreScansOf, placed_in_scan, placed_total}
-use Rattle.gdb_tables.specs.Scanned.{ScansObject, HasHeaderRoom}
+use Rattle.gdb_scan.specs.declared.error.GdbError.{GdbError}
+use Rattle.gdb_scan.specs.Cause.{IsScanCause}
+use Rattle.gdb_scan.specs.PlacedIn.{NameSections, of_object, is_counted, placed_in}
+use Rattle.gdb_scan.specs.Scan.{ObjectScan, IsScanOf, placed_in_scan}
+use Rattle.gdb_tables.specs.Scans.{AreScansOf, placed_total}
+use Rattle.gdb_scan.specs.Scanned.{ScansObject, HasHeaderRoom}
 use Rattle.gdb_tables.specs.Files.{file_bytes, IsThere, ArePlacedIn, ArePlain, ScansObjects, FirstBadObject}
 
 -- how many placements count, object by object

@@ -11,9 +11,9 @@ use Rattle.gdb_index_format.specs.declared.unit.CuBoundary.{CuBoundary}
 use Rattle.gdb_index_format.specs.Names.{Entry, NameSet, width, number, initial_length, IsEntries, IsSet, IsSetList}
 use Rattle.gdb_index_format.specs.Objects.{is_pubnames_section, pubnames_sections, AreSetsOfSections, AreSetsBeside, IsObjectOf}
 use Rattle.gdb_index_format.specs.Published.{Object, Pair, pairs_at, pairs_of, published_from}
-use Rattle.gdb_tables.specs.Scan.{ObjectScan, IsScanOf}
-use Rattle.gdb_tables.specs.Scanned.{HasHeaderRoom}
-use Rattle.gdb_tables.proofs.Sounding.{section_short, filter_le}
+use Rattle.gdb_scan.specs.Scan.{ObjectScan, IsScanOf}
+use Rattle.gdb_scan.specs.Scanned.{HasHeaderRoom}
+use Rattle.gdb_scan.proofs.Sounding.{section_short, filter_le}
 
 abbrev entry_weight : Entry → ℕ
 entry_weight e = length e.name + 2

@@ -13,13 +13,13 @@ use Rattle.gdb_index_format.specs.declared.unit.CuBoundary.{CuBoundary}
 use Rattle.gdb_index_format.specs.Published.{Object, units_in_objects}
 use Rattle.gdb_index_format.specs.Placed.{has_unit, placed}
 use Rattle.gdb_index_format.specs.Addresses.{unit_of_section, unit_relocation_fault}
-use Rattle.gdb_addresses.specs.declared.error.MapError.{MapError}
-use Rattle.gdb_addresses.specs.declared.error.MapError.TheVariants.{Elf}
-use Rattle.gdb_addresses.specs.declared.error.MapError.TheVariants as maps
-use Rattle.gdb_tables.specs.declared.error.GdbError.{GdbError}
-use Rattle.gdb_tables.specs.declared.error.GdbError.TheVariants.{BadElf, CompressedSection, BadUnit, BadPubnames, TooManyUnits, IndexTooLarge, NoMemory}
+use Rattle.gdb_scan.specs.declared.map_error.MapError.{MapError}
+use Rattle.gdb_scan.specs.declared.map_error.MapError.TheVariants.{Elf}
+use Rattle.gdb_scan.specs.declared.map_error.MapError.TheVariants as maps
+use Rattle.gdb_scan.specs.declared.error.GdbError.{GdbError}
+use Rattle.gdb_scan.specs.declared.error.GdbError.TheVariants.{BadElf, CompressedSection, BadUnit, BadPubnames, TooManyUnits, IndexTooLarge, NoMemory}
 use Rattle.gdb_tables.specs.Files.{file_bytes}
-use Rattle.gdb_tables.specs.PlacedIn.{is_counted}
+use Rattle.gdb_scan.specs.PlacedIn.{is_counted}
 
 -- the unit of a section of an object, by its place among the object's units
 abbrev pub unit_in : Class → Option Parsed → Option Object → ℕ → ℕ

@@ -8,11 +8,12 @@ use Rattle.gdb_index_format.specs.declared.placement.Placement.{Placement}
 use Rattle.gdb_index_format.specs.Published.{Object, published}
 use Rattle.gdb_index_format.specs.Objects.{AreObjectsOf, first_compressed}
 use Rattle.gdb_index_format.specs.Placed.{placed}
-use Rattle.gdb_tables.specs.declared.error.GdbError.{GdbError}
-use Rattle.gdb_tables.specs.declared.error.GdbError.TheVariants.{NoMemory}
-use Rattle.gdb_tables.specs.Cause.{IsScanCause}
-use Rattle.gdb_tables.specs.PlacedIn.{ArePlacements}
-use Rattle.gdb_tables.specs.Scan.{ObjectScan, AreScansOf, placed_total}
+use Rattle.gdb_scan.specs.declared.error.GdbError.{GdbError}
+use Rattle.gdb_scan.specs.declared.error.GdbError.TheVariants.{NoMemory}
+use Rattle.gdb_scan.specs.Cause.{IsScanCause}
+use Rattle.gdb_scan.specs.PlacedIn.{ArePlacements}
+use Rattle.gdb_scan.specs.Scan.{ObjectScan}
+use Rattle.gdb_tables.specs.Scans.{AreScansOf, placed_total}
 
 abbrev pub file_bytes : List Parsed → List (List ℕ)
 file_bytes files = map (λ f. f.bytes) files

@@ -1,13 +1,6 @@
-pub mod Groups
-pub mod Marks
-pub mod Section
-pub mod Scan
-pub mod PlacedIn
+pub mod Scans
 pub mod Misplaced
 pub mod Addresses
-pub mod Cause
-pub mod Gathered
-pub mod Scanned
 pub mod Merged
 pub mod Files
 pub mod Sized

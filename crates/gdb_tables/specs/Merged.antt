@@ -5,9 +5,10 @@ use Rattle.std.specs.List.Sorted.{IsPermutation, IsNonDecreasing}
 use Rattle.gdb_index.specs.Scan.{Scan}
 use Rattle.gdb_index_format.specs.Named.{Named, ListsPublished}
 use Rattle.gdb_index_format.specs.Published.{end_to_end}
-use Rattle.gdb_tables.specs.declared.error.GdbError.{GdbError}
-use Rattle.gdb_tables.specs.declared.error.GdbError.TheVariants.{BadElf, CompressedSection, BadUnit, BadPubnames, TooManyUnits, IndexTooLarge, NoMemory}
-use Rattle.gdb_tables.specs.Scan.{ObjectScan, unit_counts, unit_total, units_in_scans, placed_total, published_in_scans}
+use Rattle.gdb_scan.specs.declared.error.GdbError.{GdbError}
+use Rattle.gdb_scan.specs.declared.error.GdbError.TheVariants.{BadElf, CompressedSection, BadUnit, BadPubnames, TooManyUnits, IndexTooLarge, NoMemory}
+use Rattle.gdb_scan.specs.Scan.{ObjectScan}
+use Rattle.gdb_tables.specs.Scans.{unit_counts, unit_total, units_in_scans, placed_total, published_in_scans}
 use Rattle.std.specs.Prelude.{Option}
 
 -- each name with its values in ascending order

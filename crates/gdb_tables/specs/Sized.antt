@@ -8,8 +8,8 @@ use Rattle.gdb_index_format.specs.Published.{Object, units_of_all, published}
 use Rattle.gdb_index_format.specs.Objects.{AreObjectsOf}
 use Rattle.gdb_index_format.specs.Placed.{placed}
 use Rattle.gdb_index_format.specs.Size.{IsSize, counts_of}
-use Rattle.gdb_tables.specs.declared.error.GdbError.{GdbError}
-use Rattle.gdb_tables.specs.declared.error.GdbError.TheVariants.{TooManyUnits, IndexTooLarge, NoMemory}
+use Rattle.gdb_scan.specs.declared.error.GdbError.{GdbError}
+use Rattle.gdb_scan.specs.declared.error.GdbError.TheVariants.{TooManyUnits, IndexTooLarge, NoMemory}
 use Rattle.gdb_tables.specs.Files.{ArePlain, FirstBadObject}
 
 -- The units of all objects, their names and words, and their counts.

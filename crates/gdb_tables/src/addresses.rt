@@ -11,17 +11,16 @@ ghost use Rattle.gdb_index_format.specs.Placed.{placed};
 ghost use Rattle.gdb_index_format.specs.Published.{Object};
 ghost use Rattle.gdb_tables.specs.Addresses.{addresses, first_relocation_fault, of_map_error, entry_at, entries_at, entries_of, unit_told, IsEntriesCause, IsAddressCause};
 ghost use Rattle.gdb_tables.specs.Files.{file_bytes, ArePlacedIn};
-ghost use Rattle.gdb_tables.specs.PlacedIn.{ArePlacements, of_object};
+ghost use Rattle.gdb_scan.specs.PlacedIn.{ArePlacements, of_object};
 ghost use Rattle.gdb_tables.specs.Sized.{IsScanOfAll};
 
-use crate::error::GdbError;
-use crate::placed::{is_code_placement, placements_of};
-use crate::scan::read_units;
 use elf_view::File;
 use elf_words::ElfClass;
-use gdb_addresses::{MapError, build_section_cu_map};
 use gdb_index::GdbIndexScanResult;
 use gdb_index_format::{AddressEntry, Placement};
+use gdb_scan::{
+    GdbError, MapError, build_section_cu_map, is_code_placement, placements_of, read_units,
+};
 use std::alloc::{AllocError, Global};
 use std::collections::HashMap;
 

@@ -4,17 +4,15 @@ ghost use Rattle.std.specs.Prelude.{◌≡◌, ◌≢◌, ℕ, ◌^◌, ◌<◌,
 ghost use Rattle.std.specs.List.{All};
 ghost use Rattle.gdb_index_format.specs.Published.{Object};
 ghost use Rattle.gdb_index_format.specs.Objects.{AreObjectsOf};
-ghost use Rattle.gdb_tables.specs.declared.error.GdbError.{GdbError as GdbError_spec};
-ghost use Rattle.gdb_tables.specs.declared.error.GdbError.TheVariants.{NoMemory};
-ghost use Rattle.gdb_tables.specs.Cause.{IsRefusedFor, IsOnlyMemory};
+ghost use Rattle.gdb_scan.specs.declared.error.GdbError.{GdbError as GdbError_spec};
+ghost use Rattle.gdb_scan.specs.declared.error.GdbError.TheVariants.{NoMemory};
+ghost use Rattle.gdb_scan.specs.Cause.{IsRefusedFor, IsOnlyMemory};
 ghost use Rattle.gdb_tables.specs.Files.{file_bytes, ArePlain, ArePlacedIn, ScansObjects, IsFilesCause};
 
-use crate::error::GdbError;
-use crate::object_scan::PerObjectScan;
-use crate::scan::scan_one_object;
 use elf_view::File;
 use elf_words::ElfClass;
 use gdb_index_format::Placement;
+use gdb_scan::{GdbError, PerObjectScan, scan_one_object};
 use std::alloc::Global;
 
 /// The scans of all objects, in input order. It is refused for the first object that is not scanned, as

@@ -1,12 +1,11 @@
 //! Laws of the refusals, each the contract of a function that does nothing: what is refused is refused for one
 //! cause, and what has a size has none.
 
-ghost use Rattle.gdb_tables.specs.Laws.{HasOneScanCause, HasOneFilesCause, HasOneSizeCause, IndexableHasNoCause};
+ghost use Rattle.gdb_tables.specs.Laws.{HasOneFilesCause, HasOneSizeCause, IndexableHasNoCause};
 
-/// An object is not scanned for one cause, and so are several, want of memory aside.
-pub fn scan_causes_are_one()
-    ensures object { HasOneScanCause }
-    ensures objects { HasOneFilesCause }
+/// Objects are not scanned for one cause, want of memory aside.
+pub fn files_causes_are_one()
+    ensures { HasOneFilesCause }
 {}
 
 /// An index has no size for one cause, want of memory aside.

@@ -6,39 +6,31 @@
 #[cfg(test)]
 mod address_tests;
 mod addresses;
-mod ascending;
-mod error;
 mod files;
 mod laws;
-mod mark;
 mod merge;
 mod misplaced;
 mod names;
-mod object_names;
-mod object_scan;
-mod placed;
-mod scan;
 mod sizing;
 #[cfg(test)]
 mod tests;
 
 pub use addresses::build_address_entries;
-pub use error::GdbError;
+pub use dwarf_sections::{
+    PubnamesSet, SetError, UnitError, cu_index_for_offset, parse_cu_boundaries, parse_pubnames_sets,
+};
 pub use files::scan_objects;
-pub use gdb_addresses::{MapError, build_section_cu_map};
 pub use gdb_index::{
     AddressEntry, BadIndex, CuVector, GdbIndexScanResult, INDEX_VERSION, IndexCounts,
     IndexTooLarge, NameWords, Steps, checked_index_size, compute_hash_table_slots,
     encode_cu_vector_entry, gdb_hash, index_size, lookup, write_gdb_index,
 };
 pub use gdb_index_format::{CuBoundary, Placement, UnitFault};
-pub use gdb_sections::{
-    PubnamesSet, SetError, UnitError, cu_index_for_offset, parse_cu_boundaries, parse_pubnames_sets,
+pub use gdb_scan::{
+    GdbError, MapError, Mark, NameMarks, PerObjectScan, build_section_cu_map, scan_causes_are_one,
+    scan_one_object,
 };
-pub use laws::{indexable_has_no_cause, scan_causes_are_one, size_causes_are_one};
-pub use mark::{Mark, NameMarks};
+pub use laws::{files_causes_are_one, indexable_has_no_cause, size_causes_are_one};
 pub use merge::merge_gdb_index_scans;
 pub use misplaced::{first_misplaced, placed_are_not_misplaced};
-pub use object_scan::PerObjectScan;
-pub use scan::scan_one_object;
 pub use sizing::compute_gdb_index_size;

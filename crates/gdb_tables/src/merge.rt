@@ -7,17 +7,16 @@ ghost use Rattle.std.specs.List.Sorted.{IsPermutation, IsNonDecreasing};
 ghost use Rattle.gdb_index_format.specs.Named.{all_named, ListsPublished};
 ghost use Rattle.gdb_index_format.specs.Published.{Object, published, end_to_end};
 ghost use Rattle.gdb_index_format.specs.Units.{total_length};
-ghost use Rattle.gdb_tables.specs.Groups.{shown, groups, add_all};
-ghost use Rattle.gdb_tables.specs.Marks.{groups_in};
-ghost use Rattle.gdb_tables.specs.Scan.{units_in_scan, names_in_scan, placed_in_scan, unit_counts, unit_total, units_in_scans, placed_total, mark_word, words_of_groups, words_from, HasSoundNames, AreScansOf};
+ghost use Rattle.gdb_scan.specs.Groups.{shown, groups, add_all};
+ghost use Rattle.gdb_scan.specs.Marks.{groups_in};
+ghost use Rattle.gdb_scan.specs.Scan.{units_in_scan, names_in_scan, placed_in_scan, HasSoundNames};
+ghost use Rattle.gdb_tables.specs.Scans.{unit_counts, unit_total, units_in_scans, placed_total, mark_word, words_of_groups, words_from, AreScansOf};
 ghost use Rattle.gdb_tables.specs.Merged.{AreSorted, HaveSmallWords, IsMergeOf, IsMergeCause};
 
-use crate::error::GdbError;
-use crate::mark::{Mark, NameMarks};
 use crate::names::publish_list;
-use crate::object_scan::PerObjectScan;
 use gdb_index::{GdbIndexScanResult, encode_cu_vector_entry};
 use gdb_index_format::{CuBoundary, NameWords};
+use gdb_scan::{GdbError, Mark, NameMarks, PerObjectScan};
 use indexmap::IndexMap;
 use std::alloc::{AllocError, Global};
 

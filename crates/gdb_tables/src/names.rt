@@ -1,30 +1,10 @@
 //! Names in the order of their first publication, each with what is published of it.
 
 ghost use Rattle.std.specs.Prelude.{◌≡◌, OnOk};
-ghost use Rattle.gdb_tables.specs.Groups.{shown, add, add_list};
+ghost use Rattle.gdb_scan.specs.Groups.{shown, add_list};
 
 use indexmap::IndexMap;
 use std::alloc::{AllocError, Global};
-
-/// Publishes a value of a name. A new name goes last.
-pub(crate) fn publish<'a, X: Drop>(
-    names: &mut IndexMap<&'a [u8], Vec<X>>,
-    alloc: Global,
-    name: &'a [u8],
-    value: X,
-) -> Result<(), AllocError>
-    ensures published { OnOk result (shown names.new.entries ≡ add (shown names.old.entries) name.entry.now value) }
-{
-    match names.get_index_of(&name) {
-        Some(index) => names[index].push(value)?,
-        None => {
-            let mut values = Vec::with_capacity(alloc, 1)?;
-            values.push(value)?;
-            names.insert(name, values)?;
-        }
-    }
-    Ok(())
-}
 
 /// Publishes some values of a name. A new name goes last, and takes the list of them over.
 pub(crate) fn publish_list<'a>(

@@ -3,19 +3,19 @@
 ghost use Rattle.std.specs.Prelude.{◌≢◌, ◌^◌, ◌<◌, length, IfOk, IfErr, IfSome, OnOk};
 ghost use Rattle.std.specs.List.{All};
 ghost use Rattle.gdb_index.specs.Size.{IsIndexSize, scan_counts};
-ghost use Rattle.gdb_tables.specs.declared.error.GdbError.{GdbError as GdbError_spec};
-ghost use Rattle.gdb_tables.specs.declared.error.GdbError.TheVariants.{NoMemory};
-ghost use Rattle.gdb_tables.specs.Cause.{IsRefusedFor, IsOnlyMemory};
+ghost use Rattle.gdb_scan.specs.declared.error.GdbError.{GdbError as GdbError_spec};
+ghost use Rattle.gdb_scan.specs.declared.error.GdbError.TheVariants.{NoMemory};
+ghost use Rattle.gdb_scan.specs.Cause.{IsRefusedFor, IsOnlyMemory};
 ghost use Rattle.gdb_tables.specs.Files.{file_bytes, ArePlacedIn};
 ghost use Rattle.gdb_tables.specs.Sized.{SizesIndex, IsIndexable, IsSizeCause};
 
-use crate::error::GdbError;
 use crate::files::scan_objects;
 use crate::merge::merge_gdb_index_scans;
 use elf_view::File;
 use elf_words::ElfClass;
 use gdb_index::{GdbIndexScanResult, INDEX_VERSION, IndexTooLarge, checked_index_size};
 use gdb_index_format::Placement;
+use gdb_scan::GdbError;
 use std::alloc::Global;
 
 /// How many bytes the index of all objects has, with the scan that it is written from: 0 and none exactly where

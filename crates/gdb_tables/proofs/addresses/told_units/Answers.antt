@@ -4,10 +4,10 @@ use Rattle.std.specs.Map.{lookup}
 use Rattle.gdb_index_format.specs.Addresses.{section_unit, relocation_fault, unit_relocation_fault}
 use Rattle.gdb_index_format.specs.Objects.{info_bytes}
 use Rattle.gdb_index_format.proofs.ObjectLists.{one_units}
-use Rattle.gdb_sections.specs.UnitSearch.{AreAdjacent}
+use Rattle.dwarf_sections.specs.UnitSearch.{AreAdjacent}
 use Rattle.gdb_tables.specs.Addresses.{IsEntriesCause}
 use Rattle.gdb_tables.proofs.Adjoining.{units_adjoin, few_told, few_sound, many_told, many_fault, memory_only, map_cause}
-use Rattle.gdb_tables.proofs.Causes.{not_in_units}
+use Rattle.gdb_scan.proofs.Causes.{not_in_units}
 use Rattle.gdb_tables.proofs.addresses.told_units.Goals as goal
 
 pub returns-then-count-lt2-clause-told : goal.returns-then-count-lt2-clause-told

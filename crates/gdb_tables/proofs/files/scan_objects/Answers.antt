@@ -2,12 +2,13 @@ use Rattle.std.proofs.Common.{◌≡◌, ◌^◌, ◌<◌, ◌++◌, ◌∷◌, 
 use Rattle.std.proofs.lemmas.Grind.{common_steps}
 use Rattle.std.proofs.lemmas.Result.{err_from_is_err_and}
 use Rattle.elf_view.specs.Parsed.{Parsed}
-use Rattle.gdb_tables.specs.declared.error.GdbError.TheVariants.{NoMemory}
+use Rattle.gdb_scan.specs.declared.error.GdbError.TheVariants.{NoMemory}
 use Rattle.gdb_tables.specs.Files.{file_bytes, IsFilesCause, in_object, no_memory}
-use Rattle.gdb_tables.proofs.Causes.{holds_of}
-use Rattle.gdb_tables.proofs.OneCause.{refused_by, one_files_cause, told_files, no_cause_in_scans, no_files_cause, only_memory_in_files}
+use Rattle.gdb_scan.proofs.Causes.{holds_of}
+use Rattle.gdb_scan.proofs.OneCause.{refused_by}
+use Rattle.gdb_tables.proofs.OneCause.{one_files_cause, told_files, no_cause_in_scans, no_files_cause, only_memory_in_files}
 use Rattle.gdb_tables.proofs.Scanning.{Scanned, scanned_none, scanned_more, scans_objects, take_next, take_all_files, taken_length, file_at, first_bad_object, names_sections_of}
-use Rattle.gdb_tables.proofs.Sounding.{placed_few}
+use Rattle.gdb_scan.proofs.Sounding.{placed_few}
 use Rattle.gdb_tables.proofs.files.scan_objects.Goals as goal
 
 pub loop-object-init : goal.loop-object-init

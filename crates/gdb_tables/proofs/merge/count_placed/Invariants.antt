@@ -1,5 +1,5 @@
 use Rattle.std.proofs.Common.{◌≡◌, ◌+◌, ◌*◌, ◌≤◌, drop, ◌^◌}
-use Rattle.gdb_tables.specs.Scan.{placed_total}
+use Rattle.gdb_tables.specs.Scans.{placed_total}
 use Rattle.gdb_tables.proofs.merge.count_placed.Given as goal
 
 abbrev pub invariant-loop-scan : goal.invariant-loop-scan

@@ -1,5 +1,5 @@
 use Rattle.std.proofs.Common.{◌≡◌, ◌+◌, ◌*◌, ◌≤◌, drop, ◌^◌}
-use Rattle.gdb_tables.specs.Scan.{unit_total}
+use Rattle.gdb_tables.specs.Scans.{unit_total}
 use Rattle.gdb_tables.proofs.merge.count_units.Given as goal
 
 abbrev pub invariant-loop-scan : goal.invariant-loop-scan

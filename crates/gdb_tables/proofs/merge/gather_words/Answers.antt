@@ -1,5 +1,5 @@
 use Rattle.std.proofs.Common.{length, ap}
-use Rattle.gdb_tables.specs.Groups.{shown}
+use Rattle.gdb_scan.specs.Groups.{shown}
 use Rattle.gdb_tables.proofs.Merging.{merges_more, merges_all, merges_sound}
 use Rattle.gdb_tables.proofs.merge.gather_words.Goals as goal
 

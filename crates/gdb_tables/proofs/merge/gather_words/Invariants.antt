@@ -1,5 +1,5 @@
 use Rattle.std.specs.Vec.Iter.{into_iter_items, into_iter_len}
-use Rattle.gdb_tables.specs.Groups.{shown}
+use Rattle.gdb_scan.specs.Groups.{shown}
 use Rattle.gdb_tables.proofs.Merging.{Merges}
 use Rattle.gdb_tables.proofs.merge.gather_words.Given as goal
 

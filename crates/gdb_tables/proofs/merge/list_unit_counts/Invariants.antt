@@ -1,5 +1,5 @@
 use Rattle.std.proofs.Common.{◌≡◌, ◌++◌, drop}
-use Rattle.gdb_tables.specs.Scan.{unit_counts}
+use Rattle.gdb_tables.specs.Scans.{unit_counts}
 use Rattle.gdb_tables.proofs.merge.list_unit_counts.Given as goal
 
 abbrev pub invariant-loop-scan : goal.invariant-loop-scan

@@ -2,9 +2,10 @@ use Rattle.std.proofs.Common.{◌≡◌, ◌^◌, ◌≤◌, List, Option, subst
 use Rattle.gdb_index.specs.Scan.{Scan}
 use Rattle.gdb_index_format.specs.Named.{all_named, ListsPublished}
 use Rattle.gdb_index_format.specs.Published.{published, end_to_end}
-use Rattle.gdb_tables.specs.Groups.{groups}
+use Rattle.gdb_scan.specs.Groups.{groups}
 use Rattle.gdb_tables.specs.Merged.{AreSorted, IsMergeOf}
-use Rattle.gdb_tables.specs.Scan.{ObjectScan, unit_total, unit_counts, units_in_scans, placed_total, words_from}
+use Rattle.gdb_scan.specs.Scan.{ObjectScan}
+use Rattle.gdb_tables.specs.Scans.{unit_total, unit_counts, units_in_scans, placed_total, words_from}
 use Rattle.gdb_tables.proofs.Listing.{lists_of_scans, lists_of_objects}
 use Rattle.gdb_tables.proofs.Merging.{sound_merge}
 use Rattle.gdb_tables.proofs.merge.merge_gdb_index_scans.Goals as goal

@@ -1,7 +1,8 @@
 use Rattle.std.proofs.Common.{ℕ, ◌+◌, ◌++◌, drop, ap, ◌∙◌, arith}
 use Rattle.gdb_index_format.specs.Published.{end_to_end}
 use Rattle.gdb_index_format.specs.Units.{total_length}
-use Rattle.gdb_tables.specs.Scan.{units_in_scan, units_in_scans}
+use Rattle.gdb_scan.specs.Scan.{units_in_scan}
+use Rattle.gdb_tables.specs.Scans.{units_in_scans}
 use Rattle.gdb_tables.proofs.Merging.{units_step}
 use Rattle.gdb_tables.proofs.merge.placed_units.Goals as goal
 

@@ -1,6 +1,6 @@
 use Rattle.std.proofs.Common.{◌≡◌, ◌*◌, ◌≤◌, ◌++◌, drop, ◌^◌}
 use Rattle.gdb_index_format.specs.Published.{end_to_end}
-use Rattle.gdb_tables.specs.Scan.{units_in_scans}
+use Rattle.gdb_tables.specs.Scans.{units_in_scans}
 use Rattle.gdb_tables.proofs.merge.placed_units.Given as goal
 
 abbrev pub invariant-loop-scan : goal.invariant-loop-scan

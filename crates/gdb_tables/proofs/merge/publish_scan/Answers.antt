@@ -1,11 +1,12 @@
 use Rattle.std.proofs.Common.{◌≡◌, ◌+◌, ◌^◌, ◌<◌, List, length, map, subst, sym, ap, ◌∙◌, arith}
 use Rattle.std.specs.List.{All, AllByRecursion}
 use Rattle.std.proofs.lemmas.List.{drop_all}
-use Rattle.gdb_tables.specs.declared.mark.Mark.{Mark}
-use Rattle.gdb_tables.specs.declared.mark.NameMarks.{NameMarks}
-use Rattle.gdb_tables.specs.Groups.{shown, add_all, add_list}
-use Rattle.gdb_tables.specs.Marks.{group_of, groups_in}
-use Rattle.gdb_tables.specs.Scan.{IsObjectName, units_in_scan, mark_word, words_of_groups}
+use Rattle.gdb_scan.specs.declared.mark.Mark.{Mark}
+use Rattle.gdb_scan.specs.declared.mark.NameMarks.{NameMarks}
+use Rattle.gdb_scan.specs.Groups.{shown, add_all, add_list}
+use Rattle.gdb_scan.specs.Marks.{group_of, groups_in}
+use Rattle.gdb_scan.specs.Scan.{IsObjectName, units_in_scan}
+use Rattle.gdb_tables.specs.Scans.{mark_word, words_of_groups}
 use Rattle.gdb_tables.proofs.Merging.{marks_fit, words_published, named_step}
 use Rattle.gdb_tables.proofs.merge.publish_scan.Goals as goal
 

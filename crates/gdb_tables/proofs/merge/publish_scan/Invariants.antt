@@ -1,7 +1,7 @@
 use Rattle.std.proofs.Common.{◌≡◌, drop}
-use Rattle.gdb_tables.specs.Groups.{shown, add_all}
-use Rattle.gdb_tables.specs.Marks.{groups_in}
-use Rattle.gdb_tables.specs.Scan.{words_of_groups}
+use Rattle.gdb_scan.specs.Groups.{shown, add_all}
+use Rattle.gdb_scan.specs.Marks.{groups_in}
+use Rattle.gdb_tables.specs.Scans.{words_of_groups}
 use Rattle.gdb_tables.proofs.merge.publish_scan.Given as goal
 
 abbrev pub invariant-loop-named : goal.invariant-loop-named

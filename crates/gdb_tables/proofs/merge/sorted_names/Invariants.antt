@@ -1,6 +1,6 @@
 use Rattle.std.proofs.Common.{◌≡◌, List, ℕ, ◌++◌}
 use Rattle.gdb_index_format.specs.Named.{all_named}
-use Rattle.gdb_tables.specs.Groups.{shown}
+use Rattle.gdb_scan.specs.Groups.{shown}
 use Rattle.gdb_tables.specs.Merged.{AreSorted, HaveSmallWords}
 use Rattle.gdb_tables.proofs.merge.sorted_names.Given as goal
 

@@ -1,5 +1,5 @@
 use Rattle.std.proofs.Common.{◌≡◌, ◌++◌, drop, map}
-use Rattle.gdb_tables.specs.Scan.{mark_word}
+use Rattle.gdb_tables.specs.Scans.{mark_word}
 use Rattle.gdb_tables.proofs.merge.words_of.Given as goal
 
 abbrev pub invariant-loop-mark : goal.invariant-loop-mark

@@ -1,6 +1,6 @@
 use Rattle.std.proofs.Common.{◌∙◌, ◌++◌, ap, sym, refl}
-use Rattle.gdb_tables.specs.Groups.{shown}
-use Rattle.gdb_tables.proofs.Grouping.{shown-insert, shown-set, place_of}
+use Rattle.gdb_scan.specs.Groups.{shown}
+use Rattle.gdb_scan.proofs.Grouping.{shown-insert, shown-set, place_of}
 use Rattle.gdb_tables.proofs.names.publish_list.Goals as goal
 
 pub returns-in_ok-extend_from_slice-in-Some : goal.returns-in_ok-extend_from_slice-in-Some

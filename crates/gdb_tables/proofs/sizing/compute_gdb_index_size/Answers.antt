@@ -3,7 +3,7 @@ use Rattle.std.proofs.lemmas.Grind.{common_steps}
 use Rattle.std.proofs.lemmas.List.{length-map}
 use Rattle.elf_view.specs.Parsed.{Parsed}
 use Rattle.gdb_index.specs.Size.{IsIndexSize}
-use Rattle.gdb_tables.specs.declared.error.GdbError.TheVariants.{IndexTooLarge}
+use Rattle.gdb_scan.specs.declared.error.GdbError.TheVariants.{IndexTooLarge}
 use Rattle.gdb_tables.specs.Files.{file_bytes}
 use Rattle.gdb_tables.proofs.IndexSizes.{objects_cause, scans_as_files, merge_cause, gathered, sized_none, counts_small, sized_some, sized_large}
 use Rattle.gdb_tables.proofs.OneCause.{only_size_memory, no_size_cause, told_size, indexable}

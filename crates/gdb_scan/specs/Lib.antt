@@ -1,0 +1,11 @@
+pub mod Groups
+pub mod Marks
+pub mod Section
+pub mod Scan
+pub mod PlacedIn
+pub mod Cause
+pub mod Gathered
+pub mod Scanned
+pub mod Told
+pub mod MapCause
+pub mod Laws

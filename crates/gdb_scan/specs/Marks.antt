@@ -1,0 +1,29 @@
+-- Which names an object publishes.
+use Rattle.std.specs.Prelude.{ℕ, List, [], map, Option, Some, None}
+use Rattle.std.specs.List.{flat_map}
+use Rattle.gdb_index_format.specs.declared.unit.CuBoundary.{CuBoundary}
+use Rattle.gdb_index_format.specs.Names.{Entry, NameSet}
+use Rattle.dwarf_sections.specs.UnitSearch.{unit_at}
+use Rattle.gdb_scan.specs.declared.mark.Mark.{Mark}
+use Rattle.gdb_scan.specs.declared.mark.NameMarks.{NameMarks}
+
+abbrev pub mark_of : ℕ → Entry → List ℕ × Mark
+mark_of place e = (e.name, record { unit = place; flag = e.flag })
+
+abbrev pub marks_at : Option ℕ → List Entry → List (List ℕ × Mark)
+marks_at None es = []
+marks_at (Some place) es = map (mark_of place) es
+
+-- what a set publishes: nothing where its offset is that of no unit
+abbrev pub marks_in : List CuBoundary → NameSet → List (List ℕ × Mark)
+marks_in us s = marks_at (unit_at us s.unit) s.entries
+
+-- what an object publishes, in order
+abbrev pub marks_of : List CuBoundary → List NameSet → List (List ℕ × Mark)
+marks_of us ss = flat_map (marks_in us) ss
+
+abbrev pub group_of : NameMarks → List ℕ × List Mark
+group_of n = (n.name.now, n.marks.items)
+
+abbrev pub groups_in : List NameMarks → List (List ℕ × List Mark)
+groups_in ns = map group_of ns

@@ -1,0 +1,92 @@
+//! Why there is no index, told by the object and the section at fault.
+
+ghost use Rattle.std.specs.Prelude.{◌≡◌};
+ghost use Rattle.gdb_scan.specs.Cause.{of_unit_error, of_set_error};
+
+use dwarf_sections::{SetError, UnitError};
+use elf_format::{ElfError, SectionIndex};
+use gdb_index_format::UnitFault;
+use std::alloc::{AllocError, AllocFailed};
+use thiserror::Error;
+
+/// Why the objects are not gathered. An object is told by its place in the input, from 0.
+#[derive(Clone, Copy, Debug, PartialEq, Eq, Error)]
+pub enum GdbError {
+    /// A section of the object that is read leaves the file (`SectionData`), or another of its ELF parts is
+    /// at fault.
+    #[error("object {0} is no sound ELF file")]
+    BadElf(usize, ElfError),
+    /// The section of the object is compressed: the lowest of those that are read and are compressed.
+    #[error("a section of object {0} is compressed")]
+    CompressedSection(usize, SectionIndex),
+    /// At this offset of the object's `.debug_info`, in bytes from its start, no unit begins.
+    #[error("the unit at {offset} of object {object} is not sound")]
+    BadUnit {
+        object: usize,
+        offset: u64,
+        fault: UnitFault,
+    },
+    /// The section of the object is no list of sets of names.
+    #[error("a section of names of object {0} is not sound")]
+    BadPubnames(usize, SectionIndex),
+    /// So many units are more than the words of an index can number: above 16,777,216.
+    #[error("there are {0} units, more than an index can number")]
+    TooManyUnits(u64),
+    /// An index of so many bytes is larger than its offsets can count: above 4,294,967,295.
+    #[error("the index would have {0} bytes, more than it can count")]
+    IndexTooLarge(u128),
+    /// There is no memory.
+    #[error("out of memory")]
+    NoMemory,
+}
+
+impl From<AllocError> for GdbError {
+    ghost use Rattle.std.specs.Prelude.{◌≡◌};
+    ghost use Rattle.gdb_scan.specs.declared.error.GdbError.TheVariants.{NoMemory};
+
+    ghost from_gives = { λ _ e. e ≡ NoMemory };
+
+    fn from(_: AllocError) -> Self {
+        GdbError::NoMemory
+    }
+}
+
+impl<T: Drop> From<AllocFailed<T>> for GdbError {
+    ghost use Rattle.std.specs.Prelude.{◌≡◌};
+    ghost use Rattle.gdb_scan.specs.declared.error.GdbError.TheVariants.{NoMemory};
+
+    ghost from_gives = { λ _ e. e ≡ NoMemory };
+
+    fn from(_: AllocFailed<T>) -> Self {
+        GdbError::NoMemory
+    }
+}
+
+/// Why the units of an object are not read.
+pub(crate) fn of_units(object: usize, error: UnitError) -> GdbError
+    ensures { result ≡ of_unit_error object error }
+{
+    match error {
+        UnitError::Truncated { offset } => GdbError::BadUnit {
+            object,
+            offset,
+            fault: UnitFault::Truncated,
+        },
+        UnitError::InvalidLength { offset } => GdbError::BadUnit {
+            object,
+            offset,
+            fault: UnitFault::InvalidLength,
+        },
+        UnitError::NoMemory => GdbError::NoMemory,
+    }
+}
+
+/// Why a section of names of an object is not read.
+pub(crate) fn of_names(object: usize, section: SectionIndex, error: SetError) -> GdbError
+    ensures { result ≡ of_set_error object section error }
+{
+    match error {
+        SetError::BadSet => GdbError::BadPubnames(object, section),
+        SetError::NoMemory => GdbError::NoMemory,
+    }
+}
