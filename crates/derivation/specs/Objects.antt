@@ -10,6 +10,7 @@ use Rattle.elf_format.specs.Architecture.{machine_number}
 use Rattle.elf_format.specs.Bytes.{get}
 use Rattle.elf_format.specs.Class.{Class, e_type, e_machine}
 use Rattle.elf_format.specs.Fault.{fault}
+use Rattle.elf_format.specs.FileHeader.{et_rel}
 use Rattle.elf_format.specs.Section.{file_header}
 use Rattle.elf_format.specs.Span.{span_bytes}
 use Rattle.elf_view.specs.Parsed.{Parsed}
@@ -28,10 +29,6 @@ parsed_of buffer spans = map (parsed_at buffer) spans
 -- the version of the index that is written
 abbrev pub index_version : ℕ
 index_version = 9
-
--- the type of a relocatable file (gABI, ELF Header, e_type)
-abbrev pub et_rel : ℕ
-et_rel = 1
 
 -- what is wrong with a well-formed file as an object for a machine
 abbrev pub kind_fault : Class → Architecture → List ℕ → Option ElfError

@@ -1,7 +1,8 @@
 -- What is written in LEB128 is read again, whatever follows it.
 use Rattle.std.proofs.Common.{◌≡◌, ℕ, zero, suc, ◌+◌, ◌-◌, ◌*◌, ◌/◌, ◌%◌, ◌^◌, ◌<◌, ◌≤◌, Bool, true, false, ltb, cond, ℤ, pos, negsuc, List, [], ◌∷◌, ◌++◌, length, take, drop, length-append, Ok, refl, ap, ◌∙◌, arith, lit<, lt-ltb, le-ltb, ltb-true, ltb-false, pow-suc}
 use Rattle.std.proofs.lemmas.List.{take_at, drop_at}
-use Rattle.elf_format.specs.Leb128.{continuing, group_sum, signed_below, signed_sum, number_bytes, unsigned_number, signed_number, is_i64, uleb128, sleb128, groups, groups_before, uleb128_size, uleb128_form, sleb128_form, magnitude, signed_groups_before, unsigned_below, ◌>>=◌}
+use Rattle.elf_format.specs.Leb128.{continuing, group_sum, signed_below, signed_sum, number_bytes, unsigned_number, signed_number, is_i64, uleb128, sleb128, leb128_groups, groups_before, uleb128_size, uleb128_form, sleb128_form, magnitude, signed_groups_before, unsigned_below}
+use Rattle.elf_format.specs.Chain.{◌>>=◌}
 
 pub continuing_last : (b : ℕ) (bytes : List ℕ) → b < 128 → continuing (b ∷ bytes) ≡ 0
 continuing_last b bytes h = rw (lt-ltb b 128 h) refl
@@ -9,11 +10,11 @@ continuing_last b bytes h = rw (lt-ltb b 128 h) refl
 pub continuing_more : (b : ℕ) (bytes : List ℕ) → 128 ≤ b → continuing (b ∷ bytes) ≡ suc (continuing bytes)
 continuing_more b bytes h = rw (le-ltb b 128 h) refl
 
-pub continuing_groups : (more n : ℕ) (rest : List ℕ) → continuing (groups more n ++ rest) ≡ more
+pub continuing_groups : (more n : ℕ) (rest : List ℕ) → continuing (leb128_groups more n ++ rest) ≡ more
 continuing_groups zero n rest = continuing_last (n % 128) rest (omega arith)
-continuing_groups (suc more) n rest = continuing_more (128 + n % 128) (groups more (n / 128) ++ rest) (omega arith) ∙ ap suc (continuing_groups more (n / 128) rest)
+continuing_groups (suc more) n rest = continuing_more (128 + n % 128) (leb128_groups more (n / 128) ++ rest) (omega arith) ∙ ap suc (continuing_groups more (n / 128) rest)
 
-pub length_groups : (more n : ℕ) → length (groups more n) ≡ suc more
+pub length_groups : (more n : ℕ) → length (leb128_groups more n) ≡ suc more
 length_groups zero n = refl
 length_groups (suc more) n = ap suc (length_groups more (n / 128))
 
@@ -23,9 +24,9 @@ scale_step more n h = let e : 128 ^ suc (suc more) ≡ 128 ^ suc more * 128 = po
 scale_back : (more n : ℕ) → n / 128 < 128 ^ suc more → n < 128 ^ suc (suc more)
 scale_back more n h = let e : 128 ^ suc (suc more) ≡ 128 ^ suc more * 128 = pow-suc 128 (suc more) in omega arith
 
-pub sum_groups : (more n : ℕ) → n < 128 ^ suc more → group_sum (groups more n) ≡ n
+pub sum_groups : (more n : ℕ) → n < 128 ^ suc more → group_sum (leb128_groups more n) ≡ n
 sum_groups zero n h = omega arith
-sum_groups (suc more) n h = let e : group_sum (groups more (n / 128)) ≡ n / 128 = sum_groups more (n / 128) (scale_step more n h) in omega arith
+sum_groups (suc more) n h = let e : group_sum (leb128_groups more (n / 128)) ≡ n / 128 = sum_groups more (n / 128) (scale_step more n h) in omega arith
 
 pub groups_enough : (most n : ℕ) → n < 128 ^ suc most → n < 128 ^ suc (groups_before most n)
 groups_enough zero n h = h
@@ -51,10 +52,10 @@ number_at bytes form rest more e small len parts room =
     let d : drop (suc more) bytes ≡ rest = rw parts (drop_at form rest (suc more) len) in
     rw (e, le-ltb 9 more small, lt-ltb more (length bytes) room, t, d) refl
 
-pub number_again : (more n : ℕ) (rest : List ℕ) → more ≤ 9 → number_bytes (groups more n ++ rest) ≡ Ok (groups more n, rest)
+pub number_again : (more n : ℕ) (rest : List ℕ) → more ≤ 9 → number_bytes (leb128_groups more n ++ rest) ≡ Ok (leb128_groups more n, rest)
 number_again more n rest h =
-    number_at (groups more n ++ rest) (groups more n) rest more (continuing_groups more n rest) h (length_groups more n) refl
-    (omega (arith, length-append (groups more n) rest, length_groups more n))
+    number_at (leb128_groups more n ++ rest) (leb128_groups more n) rest more (continuing_groups more n rest) h (length_groups more n) refl
+    (omega (arith, length-append (leb128_groups more n) rest, length_groups more n))
 
 unsigned_of : (form rest : List ℕ) (n : ℕ) → group_sum form ≡ n → n < 2 ^ 64 → unsigned_number (form, rest) ≡ Ok (n, rest)
 unsigned_of form rest n e h = rw (e, lt-ltb n (2 ^ 64) h) refl
@@ -64,7 +65,7 @@ unfolding uleb128 uleb128_form
 uleb128_again n rest h =
     let fits : n < 128 ^ 10 = omega arith in
     ap (λ r. r >>= unsigned_number) (number_again (groups_before 9 n) n rest (groups_at_most 9 n))
-    ∙ unsigned_of (groups (groups_before 9 n) n) rest n (sum_groups (groups_before 9 n) n (groups_enough 9 n fits)) h
+    ∙ unsigned_of (leb128_groups (groups_before 9 n) n) rest n (sum_groups (groups_before 9 n) n (groups_enough 9 n fits)) h
 
 -- in two's complement, a number below half the scale is read again
 
@@ -90,7 +91,7 @@ signed_of form rest z e h = rw (e, is_i64_of z h) refl
 half_scale : (more : ℕ) → (half : ℕ) × (128 ^ suc more ≡ 2 * half)
 half_scale more = let e : 128 ^ suc more ≡ 128 ^ more * 128 = pow-suc 128 more in (64 * 128 ^ more, omega arith)
 
-signed_groups : (z : ℤ) (more scale half : ℕ) → scale ≡ 128 ^ suc more → scale ≡ 2 * half → magnitude z < half → signed_sum (groups more (unsigned_below z scale)) ≡ z
+signed_groups : (z : ℤ) (more scale half : ℕ) → scale ≡ 128 ^ suc more → scale ≡ 2 * half → magnitude z < half → signed_sum (leb128_groups more (unsigned_below z scale)) ≡ z
 signed_groups z more scale half e f h =
     let small : unsigned_below z scale < 128 ^ suc more = rw (← e) (rw f (unsigned_small z half h)) in
     rw (sum_groups more (unsigned_below z scale) small, length_groups more (unsigned_below z scale), ← e, f) (signed_again z half h)

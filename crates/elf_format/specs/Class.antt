@@ -1,24 +1,25 @@
--- The two classes of ELF files: how large each record is, and where its fields lie (gABI: ELF Header,
--- Sections, Symbol Table, Relocation, Program Header, Dynamic Section, Compressed section).
+-- The two classes of ELF files: the size of each record, and the offsets of its fields (gABI: ELF Header,
+-- Sections, Symbol Table, Relocation, Program Header, Dynamic Section, Section Compression).
 use Rattle.std.specs.Prelude.{ℕ, ◌^◌, ℤ}
 use Rattle.std.specs.Int.{w32, w64, cast_signed}
 use Rattle.elf_format.specs.Bytes.{Field, field_at}
+use Rattle.elf_format.specs.FileHeader.{elfclass32, elfclass64}
 
 pub data Class : Type 0 where
   class32 : Class
   class64 : Class
 
--- the byte of a file's identification that names its class
+-- the byte of e_ident that names the class
 abbrev pub class_byte : Class → ℕ
-class_byte class32 = 1
-class_byte class64 = 2
+class_byte class32 = elfclass32
+class_byte class64 = elfclass64
 
--- a field of the class's word: its place in class 32, and in class 64
+-- a field as wide as an address: its offset in ELFCLASS32 and in ELFCLASS64
 abbrev pub word_at : Class → ℕ → ℕ → Field
 word_at class32 at32 at64 = field_at at32 4
 word_at class64 at32 at64 = field_at at64 8
 
--- a field of one width in both classes: its place in class 32, in class 64, and its width
+-- a field of one width in both classes: its offset in ELFCLASS32, in ELFCLASS64, and its width
 abbrev pub fixed_at : Class → ℕ → ℕ → ℕ → Field
 fixed_at class32 at32 at64 width = field_at at32 width
 fixed_at class64 at32 at64 width = field_at at64 width
@@ -104,7 +105,7 @@ sh_addralign c = word_at c 32 48
 abbrev pub sh_entsize : Class → Field
 sh_entsize c = word_at c 36 56
 
--- a symbol
+-- a symbol table entry
 
 abbrev pub symbol_size : Class → ℕ
 symbol_size class32 = 16
@@ -128,7 +129,7 @@ st_value c = word_at c 4 8
 abbrev pub st_size : Class → Field
 st_size c = word_at c 8 16
 
--- a relocation
+-- a RELA record
 
 abbrev pub rela_size : Class → ℕ
 rela_size class32 = 12
@@ -143,12 +144,12 @@ r_info c = word_at c 4 8
 abbrev pub r_addend : Class → Field
 r_addend c = word_at c 8 16
 
--- what a symbol counts in a relocation's info; the kind is below it
+-- r_info is the symbol index times this number, plus the relocation type
 abbrev pub symbol_unit : Class → ℕ
 symbol_unit class32 = 2 ^ 8
 symbol_unit class64 = 2 ^ 32
 
--- the number that an addend's word stands for
+-- the signed number of an addend or a tag
 abbrev pub signed_word : Class → ℕ → ℤ
 signed_word class32 n = cast_signed w32 n
 signed_word class64 n = cast_signed w64 n
@@ -204,7 +205,7 @@ relr_size class64 = 8
 abbrev pub r_value : Class → Field
 r_value c = word_at c 0 0
 
--- the header of a compressed section's bytes
+-- a compression header
 
 abbrev pub compression_header_size : Class → ℕ
 compression_header_size class32 = 12

@@ -1,4 +1,5 @@
--- Lists of relocations in CREL: a header, and records that say what changes from one to the next.
+-- Lists of relocations in the compact form (CREL): a header, and records that hold what changes from one
+-- relocation to the next.
 use Rattle.std.specs.Prelude.{ℕ, zero, suc, ◌+◌, ◌-◌, ◌*◌, ◌/◌, ◌%◌, ◌^◌, ◌<◌, nat_lt, ◌==◌, ℤ, pos, negsuc, Bool, true, false, ◌&&◌, not, if◌then◌else◌, List, [], ◌∷◌, ◌++◌, length, Result, Ok, Err}
 use Rattle.std.specs.Int.RustNames.{FitsSigned}
 use Rattle.std.specs.Int.{w32, w64, cast_unsigned, cast_signed, int_wrapping_sub}
@@ -7,18 +8,14 @@ use Rattle.elf_format.specs.declared.cursor.CursorError.TheVariants as cursor
 use Rattle.elf_format.specs.declared.crel.CrelError.{CrelError}
 use Rattle.elf_format.specs.declared.crel.CrelError.TheVariants.{Truncated, TooLong}
 use Rattle.elf_format.specs.declared.crel.Crel.{Crel}
+use Rattle.elf_format.specs.Chain.{◌>>=◌}
 use Rattle.elf_format.specs.Leb128.{uleb128, sleb128, uleb128_form, sleb128_form}
 
--- a cursor's refusal, as the list's
+-- the error of a list for the error of a cursor
 abbrev pub crel_error : CursorError → CrelError
 crel_error cursor.Short = Truncated
 crel_error cursor.TooLong = TooLong
 crel_error cursor.NotUtf8 = Truncated
-
-infixl 10 ◌>>=◌
-abbrev pub ◌>>=◌ : {A B : Type 0} → Result A CrelError → (A → Result B CrelError) → Result B CrelError
-(Ok x) >>= f = f x
-(Err e) >>= f = Err e
 
 abbrev pub with_crel_error : {A : Type 0} → Result A CursorError → Result A CrelError
 with_crel_error (Ok x) = Ok x
@@ -28,32 +25,32 @@ with_crel_error (Err e) = Err (crel_error e)
 abbrev pub has_bit : ℕ → ℕ → Bool
 has_bit byte value = (byte / value) % 2 == 1
 
--- a number that stands there only where a bit says so, else 0
+-- a number that is there only where a bit says so, else 0
 unfoldable pub change : Bool → List ℕ → Result (ℤ × List ℕ) CrelError
 change true bytes = with_crel_error (sleb128 bytes)
 change false bytes = Ok (pos 0, bytes)
 
--- the higher part of an offset's change, which stands there where the first byte is 128 or more
+-- the higher part of the change of an offset, which is there where the first byte is 128 or more
 unfoldable pub offset_rest : ℕ → List ℕ → Result (ℕ × List ℕ) CrelError
 offset_rest byte bytes = if nat_lt byte 128 then Ok (0, bytes) else with_crel_error (uleb128 bytes)
 
--- sums that wrap
+-- wrapping sums
 abbrev pub add_32 : ℕ → ℤ → ℕ
 add_32 n z = (n + cast_unsigned w64 z) % 2 ^ 32
 
 abbrev pub add_64 : ℤ → ℤ → ℤ
 add_64 n z = cast_signed w64 ((cast_unsigned w64 n + cast_unsigned w64 z) % 2 ^ 64)
 
--- the sum of the offsets after a change of so many units in the first byte, where each unit of the rest counts so many
+-- the offset after a change: `low` of the first byte, and `rest` times `unit`
 abbrev pub add_offset : ℕ → ℕ → ℕ → ℕ → ℕ
 add_offset sum low rest unit = (sum + low + rest * unit) % 2 ^ 64
 
--- the unit of an offset in a record's first byte: below it are the bits that say what changes
+-- the first bit of the offset in the first byte of a record. The bits below it say what changes
 abbrev pub flags_end : Bool → ℕ
 flags_end true = 8
 flags_end false = 4
 
--- the record after `last`, whose offset is the sum so far
+-- the record after `last`, with its offset before the shift, and the bytes after it
 unfoldable pub record_front : Bool → Crel → List ℕ → Result (Crel × List ℕ) CrelError
 record_front has_addends last [] = Err Truncated
 record_front has_addends last (byte ∷ bytes) = do
@@ -71,7 +68,7 @@ record_front has_addends last (byte ∷ bytes) = do
     addend.1,
   )
 
--- a record as it is given: its offset is shifted
+-- a record with its offset shifted
 abbrev pub shifted : ℕ → Crel → Crel
 shifted shift last = record last { offset = (last.offset * 2 ^ shift) % 2 ^ 64 }
 
@@ -83,7 +80,7 @@ pub record Header : Type 0 where
 abbrev pub crel_header : ℕ → Header
 crel_header n = record { count = n / 8; has_addends = has_bit n 4; shift = n % 4 }
 
--- what the records give, so many of them, and where one is refused that refusal last
+-- `count` records, or those before the first malformed one, and its error last
 abbrev pub items : ℕ → Bool → ℕ → Crel → List ℕ → List (Result Crel CrelError)
 items zero has_addends shift last bytes = []
 items (suc count) has_addends shift last bytes =
@@ -95,13 +92,13 @@ items (suc count) has_addends shift last bytes =
 abbrev pub first_record : Crel
 first_record = record { offset = 0; symbol = 0; kind = 0; addend = pos 0 }
 
--- the items as one list, or the refusal among them
+-- the records as one list, or the error among them
 abbrev pub all_ok : List (Result Crel CrelError) → Result (List Crel) CrelError
 all_ok [] = Ok []
 all_ok (Ok x ∷ xs) = all_ok xs >>= λ rest. Ok (x ∷ rest)
 all_ok (Err e ∷ xs) = Err e
 
--- What a decoder has still to give: `count` is the header's, also after steps.
+-- What a decoder still yields. `count` is that of the header, also after steps.
 pub record Listing : Type 0 where
   pub count : ℕ
   pub items : List (Result Crel CrelError)
@@ -109,17 +106,17 @@ pub record Listing : Type 0 where
 abbrev pub listing_of : Header → List ℕ → Listing
 listing_of header bytes = record { count = header.count; items = items header.count header.has_addends header.shift first_record bytes }
 
--- what a decoder has to give at first
+-- what a decoder of these bytes yields
 unfoldable pub listing : List ℕ → Result Listing CrelError
 listing bytes = do
   header ← with_crel_error (uleb128 bytes)
   Ok (listing_of (crel_header header.0) header.1)
 
--- the list that some bytes hold; what stands after its last record does not count
+-- the list of some bytes. Bytes after its last record are ignored
 unfoldable pub crel_list : List ℕ → Result (List Crel) CrelError
 crel_list bytes = listing bytes >>= λ x. all_ok x.items
 
--- how a list is written: with addends, with no shift, each number in its shortest form, and only what changes
+-- how a list is written: with addends, without a shift, each number in its shortest form, and only what changes
 
 abbrev pub flag : Bool → ℕ → ℕ
 flag true value = value

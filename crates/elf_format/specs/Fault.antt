@@ -1,5 +1,5 @@
--- What is wrong with a file: the first rule that its bytes break.
-use Rattle.std.specs.Prelude.{ℕ, ◌+◌, ◌*◌, Bool, not, ◌&&◌, ◌||◌, ◌==◌, nat_le, if◌then◌else◌, List, [], ◌∷◌, length, take, slice_index, Option, Some, None, is_some}
+-- The fault of a file: the first rule that its bytes break.
+use Rattle.std.specs.Prelude.{ℕ, ◌+◌, ◌*◌, Bool, not, ◌&&◌, ◌||◌, ◌==◌, nat_le, if◌then◌else◌, List, [], ◌∷◌, ◌++◌, length, take, slice_index, Option, Some, None, is_some}
 use Rattle.std.specs.List.{list_all}
 use Rattle.std.specs.Str.{bytes_eq}
 use Rattle.elf_format.specs.declared.error.ElfError.{ElfError}
@@ -7,13 +7,14 @@ use Rattle.elf_format.specs.declared.error.ElfError.TheVariants.{Header, Machine
 use Rattle.elf_format.specs.Architecture.{architecture_of}
 use Rattle.elf_format.specs.Bytes.{get}
 use Rattle.elf_format.specs.Class.{Class, class32, class64, class_byte, file_header_size, e_machine, e_shentsize, e_shnum, section_header_size}
+use Rattle.elf_format.specs.FileHeader.{elf_magic, elfdata2lsb, ev_current, elfclass32, elfclass64}
 use Rattle.elf_format.specs.Section.{file_header, table_offset, has_first_header, section_count, name_table, sections}
 use Rattle.elf_format.specs.Symbol.{is_well_formed_symbol_table, is_well_formed_index_table}
 use Rattle.elf_format.specs.Version.{is_well_formed_version_section}
 
--- the four bytes 0x7f E L F, the class, little endian, and version 1
+-- the first seven bytes: the magic, the class, little endian, and the current version
 abbrev pub identification : Class → List ℕ
-identification c = 0x7f ∷ 0x45 ∷ 0x4c ∷ 0x46 ∷ class_byte c ∷ 1 ∷ 1 ∷ []
+identification c = elf_magic ++ class_byte c ∷ elfdata2lsb ∷ ev_current ∷ []
 
 -- a whole header of the class
 unfoldable pub has_header : Class → List ℕ → Bool
@@ -35,12 +36,12 @@ has_section_headers c file =
 abbrev pub has_section_names : Class → List ℕ → Bool
 has_section_names c file = section_count c file == 0 || is_some (name_table c file)
 
--- each section that holds symbols, or the section indexes of symbols, is as it should be
+-- each symbol table, and each table of section indexes of symbols, is well formed
 unfoldable pub has_symbols : Class → Bool → List ℕ → Bool
 has_symbols c is_dynamic file =
     list_all (λ header. is_well_formed_symbol_table c is_dynamic file header && is_well_formed_index_table c is_dynamic file header) (sections c file)
 
--- each section that holds versions is as it should be
+-- each section of versions is well formed
 unfoldable pub has_versions : Class → List ℕ → Bool
 has_versions c file = list_all (is_well_formed_version_section c file) (sections c file)
 
@@ -56,7 +57,7 @@ fault c is_dynamic file =
 
 -- the class that a file names
 abbrev pub class_of : List ℕ → Option Class
-class_of file = if slice_index file 4 == 1 then Some class32 else if slice_index file 4 == 2 then Some class64 else None
+class_of file = if slice_index file 4 == elfclass32 then Some class32 else if slice_index file 4 == elfclass64 then Some class64 else None
 
 -- the first rule that a file of either class breaks
 abbrev pub any_fault : Bool → List ℕ → Option ElfError

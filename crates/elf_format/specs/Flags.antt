@@ -1,8 +1,8 @@
--- Flags, each of one bit, and those of sections (gABI, Section Attribute Flags; GNU extensions).
+-- Flags, each of one bit, and the section flags (gABI, Section Attribute Flags; GNU extensions).
 use Rattle.std.specs.Prelude.{ℕ, Bool, not, ◌==◌}
 use Rattle.std.specs.Int.Bits.{bit_and}
 
--- whether a flag is among some flags
+-- whether a flag is set
 abbrev pub has_flag : ℕ → ℕ → Bool
 has_flag flags flag = not (bit_and flags flag == 0)
 

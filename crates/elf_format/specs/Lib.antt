@@ -1,6 +1,9 @@
 pub mod Bytes
 pub mod Span
 pub mod Flags
+pub mod SectionType
+pub mod SectionIndex
+pub mod FileHeader
 pub mod Class
 pub mod Table
 pub mod Architecture
@@ -9,6 +12,7 @@ pub mod Symbol
 pub mod Version
 pub mod Fault
 pub mod Example
+pub mod Chain
 pub mod Leb128
 pub mod Crel
 pub mod Cursor

@@ -1,4 +1,4 @@
--- Spans of bytes: which lie in some bytes, and what they cut out.
+-- Spans of bytes: whether they lie in a buffer, and the bytes that they select.
 use Rattle.std.specs.Prelude.{ℕ, ◌≤◌, Bool, ◌&&◌, nat_le, List, slice_range}
 use Rattle.std.specs.List.{All}
 use Rattle.elf_format.specs.declared.index.Span.{Span}

@@ -1,9 +1,9 @@
--- Records that have one form for both classes: how large each is, and where its fields lie (gABI: Note
--- Section; GNU symbol versioning; the GNU hash table; `.eh_frame_hdr` and `.eh_frame`; program properties).
+-- Records that have the same form in both classes: the size of each, and the offsets of its fields (gABI: Note
+-- Section; GNU symbol versioning; GNU hash table; LSB: `.eh_frame_hdr` and `.eh_frame`; program properties).
 use Rattle.std.specs.Prelude.{ℕ}
 use Rattle.elf_format.specs.Bytes.{Field, field_at}
 
--- a note's header
+-- the header of a note
 
 abbrev pub note_header_size : ℕ
 note_header_size = 12
@@ -17,7 +17,7 @@ n_descsz = field_at 4 4
 abbrev pub n_type : Field
 n_type = field_at 8 4
 
--- a version definition
+-- a version definition (Verdef)
 
 abbrev pub verdef_size : ℕ
 verdef_size = 20
@@ -43,7 +43,7 @@ vd_aux = field_at 12 4
 abbrev pub vd_next : Field
 vd_next = field_at 16 4
 
--- a name of a version definition
+-- a name of a version definition (Verdaux)
 
 abbrev pub verdaux_size : ℕ
 verdaux_size = 8
@@ -54,7 +54,7 @@ vda_name = field_at 0 4
 abbrev pub vda_next : Field
 vda_next = field_at 4 4
 
--- the versions needed of a file
+-- the versions needed from one file (Verneed)
 
 abbrev pub verneed_size : ℕ
 verneed_size = 16
@@ -74,7 +74,7 @@ vn_aux = field_at 8 4
 abbrev pub vn_next : Field
 vn_next = field_at 12 4
 
--- a needed version
+-- a needed version (Vernaux)
 
 abbrev pub vernaux_size : ℕ
 vernaux_size = 16
@@ -94,7 +94,7 @@ vna_name = field_at 8 4
 abbrev pub vna_next : Field
 vna_next = field_at 12 4
 
--- a symbol's version
+-- the version index of a symbol (Versym)
 
 abbrev pub versym_size : ℕ
 versym_size = 2
@@ -153,7 +153,7 @@ ehe_frame_ptr = field_at 0 4
 abbrev pub ehe_frame_info_ptr : Field
 ehe_frame_info_ptr = field_at 4 4
 
--- the front of an entry of `.eh_frame`
+-- the first two fields of an entry of `.eh_frame`
 
 abbrev pub eh_frame_entry_prefix_size : ℕ
 eh_frame_entry_prefix_size = 8

@@ -1,13 +1,13 @@
-//! Lists of relocations in CREL, the compact form of RELA: the record, and why a list is refused.
+//! Lists of relocations in CREL, the compact form of RELA: the relocation, and the errors of a list.
 
 use crate::cursor::CursorError;
 
-/// Why a CREL list is refused.
+/// Why a CREL list is malformed.
 #[derive(Clone, Copy, Debug, PartialEq, Eq)]
 pub enum CrelError {
     /// The bytes end inside the header or a record.
     Truncated,
-    /// A LEB128 number is longer than ten bytes, or leaves 64 bits.
+    /// A LEB128 number has more than ten bytes, or does not fit 64 bits.
     TooLong,
 }
 
@@ -25,11 +25,15 @@ impl From<CursorError> for CrelError {
     }
 }
 
-/// A relocation: the place that it changes, the symbol (0 is none), its kind and its addend.
+/// A relocation with an addend (gABI, Relocation).
 #[derive(Clone, Copy, Debug, PartialEq, Eq)]
 pub struct Crel {
+    /// The offset in the section to which the relocation applies.
     pub offset: u64,
+    /// The symbol index, 0 for none.
     pub symbol: u32,
+    /// The relocation type. Its meaning depends on the machine.
     pub kind: u32,
+    /// The addend.
     pub addend: i64,
 }

@@ -1,4 +1,4 @@
-//! The definitions on small lists: what they say was worked out by hand.
+//! The definitions on small lists. The expected values were worked out by hand.
 
 ghost use Rattle.std.specs.Prelude.{◌≡◌, pos, negsuc, Ok, Err, [], ◌∷◌};
 ghost use Rattle.elf_format.specs.Leb128.{uleb128_form, sleb128_form, uleb128, sleb128};
@@ -7,7 +7,7 @@ ghost use Rattle.elf_format.specs.declared.crel.Crel.{Crel};
 ghost use Rattle.elf_format.specs.declared.crel.CrelError.TheVariants.{Truncated, TooLong};
 ghost use Rattle.elf_format.specs.declared.cursor.CursorError.TheVariants as cursor;
 
-/// LEB128 numbers in their shortest form, and some that are refused.
+/// LEB128 numbers in their shortest form, and some that are malformed.
 pub fn small_numbers()
     ensures three_hundred { uleb128_form 300 ≡ 0xac ∷ 0x02 ∷ [] }
     ensures minus_one { sleb128_form (negsuc 0) ≡ 0x7f ∷ [] }
@@ -21,7 +21,7 @@ pub fn small_numbers()
     ensures least { sleb128 (0x80 ∷ 0x80 ∷ 0x80 ∷ 0x80 ∷ 0x80 ∷ 0x80 ∷ 0x80 ∷ 0x80 ∷ 0x80 ∷ 0x7f ∷ []) ≡ Ok (negsuc 9223372036854775807, []) }
 {}
 
-/// CREL lists, and some that are refused.
+/// CREL lists, and some that are malformed.
 pub fn small_lists()
     ensures two { crel_list (0x14 ∷ 0x83 ∷ 0x01 ∷ 0x01 ∷ 0x02 ∷ 0x40 ∷ [])
         ≡ Ok (record { offset = 0x10; symbol = 1; kind = 2; addend = pos 0 } ∷ record { offset = 0x18; symbol = 1; kind = 2; addend = pos 0 } ∷ []) }

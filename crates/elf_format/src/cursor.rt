@@ -1,12 +1,12 @@
-//! Why a number or a text at the front of some bytes is refused.
+//! Why a number or a string at the front of some bytes cannot be read.
 
-/// Why a cursor refuses.
+/// Why a cursor cannot read. The cursor is unchanged.
 #[derive(Clone, Copy, Debug, PartialEq, Eq)]
 pub enum CursorError {
     /// The bytes end first.
     Short,
-    /// A LEB128 number is longer than ten bytes, or leaves 64 bits.
+    /// A LEB128 number has more than ten bytes, or does not fit 64 bits.
     TooLong,
-    /// A text is not UTF-8.
+    /// A string is not UTF-8.
     NotUtf8,
 }

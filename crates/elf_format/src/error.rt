@@ -1,24 +1,24 @@
-//! Why a file, or a part of it, is refused.
+//! The errors of reading a file.
 
-/// Why an object is refused.
+/// The rule that a file, or the part of it that is read, breaks.
 #[derive(Clone, Copy, Debug, PartialEq, Eq)]
 pub enum ElfError {
-    /// The file header.
+    /// The file header is truncated, or not one of the class, little endian and version 1.
     Header,
-    /// The machine is none of those that are read.
+    /// The machine is not supported, or not the expected one.
     Machine,
-    /// The table of section headers, or the section that holds their names.
+    /// The section header table is out of range, a section index is out of range, or a section name is unreadable.
     SectionTable,
-    /// A section's bytes are not in the file.
+    /// The bytes of a section are out of range.
     SectionData,
-    /// A section that holds symbols or their strings.
+    /// A symbol table or its string table is malformed, or a symbol name is unreadable.
     SymbolTable,
-    /// There is no such symbol, or no section index for it.
+    /// A symbol index is out of range, or the symbol has no section index.
     SymbolIndex,
-    /// A section that holds relocations.
+    /// A section of relocations is malformed.
     RelocationTable,
-    /// A section that holds versions.
+    /// A section of versions is malformed.
     VersionTable,
-    /// A section's bytes are compressed.
+    /// The bytes of a section are compressed.
     Compressed,
 }

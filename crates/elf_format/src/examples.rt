@@ -1,4 +1,4 @@
-//! The definitions on a small object: what they say was worked out by hand.
+//! The definitions on a small object. The expected values were worked out by hand.
 
 ghost use Rattle.std.specs.Prelude.{◌≡◌, length, Some, None, codes, false, true, set, drop, take, ◌++◌, [], ◌∷◌, slice_set};
 ghost use Rattle.elf_format.specs.Class.{class32, class64};
@@ -8,7 +8,7 @@ ghost use Rattle.elf_format.specs.Fault.{fault, any_fault};
 ghost use Rattle.elf_format.specs.Symbol.{symbols, section_of_symbol, in_section, missing, no_section};
 ghost use Rattle.elf_format.specs.Example.{small_object, small_object32, object_with_symbols, symbol_in};
 
-/// An object of class 64 with debugging information, a names section, code and section names.
+/// An object of ELFCLASS64 with `.debug_info`, `.debug_gnu_pubnames`, code and section names.
 pub fn small_object_is_well_formed()
     ensures size { length small_object ≡ 489 }
     ensures fault { fault class64 false small_object ≡ None }
@@ -18,7 +18,7 @@ pub fn small_object_is_well_formed()
     ensures other_class { fault class32 false small_object ≡ Some Header }
 {}
 
-/// The same object of class 32, and objects of a wrong class and machine.
+/// The same object in ELFCLASS32, and objects of a wrong class and machine.
 pub fn small_object_of_class_32_is_well_formed()
     ensures size { length small_object32 ≡ 357 }
     ensures fault { any_fault false small_object32 ≡ None }
@@ -28,7 +28,7 @@ pub fn small_object_of_class_32_is_well_formed()
     ensures other_machine { any_fault false (slice_set small_object 18 40) ≡ Some Machine }
 {}
 
-/// An object with symbols and their versions, and two that are refused for one of them.
+/// An object with symbols and their versions, and two in which one of them is malformed.
 pub fn symbols_and_versions_are_found()
     ensures size { length (object_with_symbols 2 6) ≡ 464 }
     ensures fault { fault class64 false (object_with_symbols 2 6) ≡ None }

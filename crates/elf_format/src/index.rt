@@ -1,16 +1,18 @@
-//! Places in a file's tables, and spans of bytes.
+//! Indexes into the tables of a file, and spans of bytes.
 
-/// The place of a section in the table of section headers, from 0.
+/// The index of a section in the section header table, from 0.
 #[derive(Clone, Copy, Debug, PartialEq, Eq)]
 pub struct SectionIndex(pub usize);
 
-/// The place of a symbol in the symbol table, from 0.
+/// The index of a symbol in the symbol table, from 0.
 #[derive(Clone, Copy, Debug, PartialEq, Eq)]
 pub struct SymbolIndex(pub usize);
 
-/// The bytes from `start` up to `stop`, without the one at `stop`.
+/// The bytes from the offset `start` up to the offset `stop`, without the one at `stop`.
 #[derive(Clone, Copy, Debug, PartialEq, Eq)]
 pub struct Span {
+    /// The offset of the first byte.
     pub start: usize,
+    /// The offset after the last byte.
     pub stop: usize,
 }

@@ -1,6 +1,6 @@
-//! What the bytes of an ELF file mean (System V gABI): the definitions stand in `specs/`, the plain types
-//! that they name stand here, with laws over the definitions and examples of them as public functions
-//! with empty bodies. Both classes are read from one set of rules, over a table of sizes and places.
+//! What the bytes of an ELF file mean (System V gABI). The definitions are in `specs/`, for both classes over
+//! one table of record sizes and field offsets. The plain types that they name are here, with laws over the
+//! definitions and examples of them, each as a public function with an empty body.
 #![tactic(auto)]
 
 mod architecture;
@@ -22,4 +22,7 @@ pub use examples::{
     symbols_and_versions_are_found,
 };
 pub use index::{SectionIndex, Span, SymbolIndex};
-pub use laws::{lists_are_read_again, no_number_is_shorter, numbers_are_read_again};
+pub use laws::{
+    file_header_numbers_are_the_standards, lists_are_read_again, no_number_is_shorter,
+    numbers_are_read_again,
+};

@@ -10,7 +10,8 @@ use Rattle.elf_format.specs.Bytes.{get}
 use Rattle.elf_format.specs.Class.{Class, sh_type, sh_link, sh_info}
 use Rattle.elf_format.specs.Section.{sections, section_bytes}
 use Rattle.elf_format.specs.Symbol.{symbol_table}
-use Rattle.elf_format.specs.Rela.{sht_rela, sht_rel, sht_crel, rela_list}
+use Rattle.elf_format.specs.Rela.{rela_list}
+use Rattle.elf_format.specs.SectionType.{sht_rela, sht_rel, sht_crel}
 use Rattle.elf_format.specs.Crel.{Listing, listing, all_ok}
 
 -- whether a section holds relocations about the symbols of a table

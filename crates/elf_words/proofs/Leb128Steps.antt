@@ -4,7 +4,7 @@ use Rattle.std.proofs.Math.ListN.{set}
 use Rattle.std.proofs.Math.Seq.{take-suc-set}
 use Rattle.std.proofs.Math.Nat.{pow-le-pow_right}
 use Rattle.elf_format.specs.declared.cursor.CursorError.TheVariants.{Short, TooLong}
-use Rattle.elf_format.specs.Leb128.{continuing, group_sum, number_bytes, groups, groups_before}
+use Rattle.elf_format.specs.Leb128.{continuing, group_sum, number_bytes, leb128_groups, groups_before}
 use Rattle.elf_format.proofs.Leb128Lemmas.{continuing_last, continuing_more}
 
 -- the number ends at a byte below 128
@@ -43,8 +43,8 @@ sum_step sum d scale group rest whole h e = let k : sum + (d + 128 * rest) * sca
 pub scale_step : (scale i : ℕ) → scale ≡ 128 ^ i → scale * 128 ≡ 128 ^ (i + 1)
 scale_step scale i h = let one : i + 1 ≡ suc i = omega arith in rw (one, pow-suc, h) refl
 
-pub group_put : (bytes : List ℕ) (i count rest : ℕ) (whole : List ℕ) → take i bytes ++ groups (count - i) rest ≡ whole → i < count → i < length bytes
-    → take (i + 1) (set bytes i (128 + rest % 128)) ++ groups (count - (i + 1)) (rest / 128) ≡ whole
+pub group_put : (bytes : List ℕ) (i count rest : ℕ) (whole : List ℕ) → take i bytes ++ leb128_groups (count - i) rest ≡ whole → i < count → i < length bytes
+    → take (i + 1) (set bytes i (128 + rest % 128)) ++ leb128_groups (count - (i + 1)) (rest / 128) ≡ whole
 group_put bytes i count rest whole kept lt room =
     let one : i + 1 ≡ suc i = omega arith in
     let left : count - i ≡ suc (count - (i + 1)) = omega arith in

@@ -1,4 +1,4 @@
-//! Alignments: powers of two, as of a section's or a segment's address (gABI, sh_addralign, p_align).
+//! Alignments: powers of two, as of a section or a segment (gABI, `sh_addralign`, `p_align`).
 
 ghost use Rattle.std.specs.Prelude.{◌≡◌, ◌<◌, ◌≤◌, ◌%◌, ◌^◌, ◌==◌, ◌||◌, ℕ, IsTrue, IfOk, is_ok, max};
 ghost use Rattle.std.specs.Int.{is_power_of_two};
@@ -6,11 +6,11 @@ ghost use Rattle.elf_words.specs.Align.{next_like};
 
 use std::marker::Model;
 
-/// A number that is no alignment: it is above 0, and no power of two.
+/// The number is no alignment: it is neither 0 nor a power of two.
 #[derive(Clone, Copy, Debug, PartialEq, Eq)]
 pub struct BadAlignment;
 
-/// A power of two that addresses are multiples of.
+/// A power of two, in bytes.
 #[derive(Clone, Copy, Debug, PartialEq, Eq)]
 pub struct Alignment {
     value: u64,
@@ -30,7 +30,7 @@ impl Model for Alignment {
 }
 
 impl Alignment {
-    /// The alignment of a number of bytes, where 0 counts as 1. `BadAlignment` exactly where the number is
+    /// Returns the alignment of a number of bytes; 0 means 1. `BadAlignment` exactly where the number is
     /// neither 0 nor a power of two.
     pub fn new(value: u64) -> Result<Alignment, BadAlignment>
         ensures taken { is_ok result ≡ (value == 0 || is_power_of_two value) }
@@ -45,7 +45,7 @@ impl Alignment {
         Ok(Alignment { value })
     }
 
-    /// How many bytes: 1, 2, 4 and so on.
+    /// Returns the alignment in bytes: 1, 2, 4 and so on.
     pub fn value(self) -> u64
         ensures value { result ≡ self }
         ensures power { IsTrue (is_power_of_two result) }
@@ -54,7 +54,7 @@ impl Alignment {
         self.value
     }
 
-    /// The least multiple of the alignment that is not below a number. It has to fit 64 bits.
+    /// Returns the least multiple of the alignment that is not below `value`. Requires that it fits 64 bits.
     pub fn align_up(self, value: u64) -> u64
         requires { next_like self 0 value < 2 ^ 64 }
         ensures value { result ≡ next_like self 0 value }
@@ -65,8 +65,8 @@ impl Alignment {
         self.align_modulo(0, value)
     }
 
-    /// The least number not below `value` that leaves the same rest as `like` where the alignment divides
-    /// them. It has to fit 64 bits.
+    /// Returns the least number not below `value` that is congruent to `like` modulo the alignment. Requires
+    /// that it fits 64 bits.
     pub fn align_modulo(self, like: u64, value: u64) -> u64
         requires { next_like self like value < 2 ^ 64 }
         ensures value { result ≡ next_like self like value }

@@ -1,8 +1,8 @@
-//! Ranges of bits of a word.
+//! Bit ranges of a number.
 
 ghost use Rattle.std.specs.Prelude.{◌≡◌, ◌-◌, ◌/◌, ◌%◌, ◌^◌, ◌≤◌};
 
-/// The bits from `from` up to `to`, without the one at `to`, as a number. Bit 0 is the lowest.
+/// Returns the bits `from` to `to - 1` as a number. Bit 0 is the lowest. Requires `from <= to <= 64`.
 pub fn extract_bit_range(value: u64, from: u32, to: u32) -> u64
     requires order { from ≤ to }
     requires width { to ≤ 64 }

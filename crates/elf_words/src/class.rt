@@ -1,6 +1,6 @@
-//! The two classes of ELF files (gABI, Data Representation): each names the types of its records and their
-//! sizes, and laws tie every type and every constant to the class's table of sizes and places. Sizes and
-//! alignments count bytes.
+//! The two classes of ELF files (gABI, Data Representation). A class names the types of its records and their
+//! sizes. Laws tie each type and each constant to the sizes and field offsets of the definitions. Sizes and
+//! alignments are in bytes.
 
 ghost use Rattle.std.specs.Prelude.{◌≡◌, ℕ};
 ghost use Rattle.elf_format.specs.Class.{Class, class_byte, word_at, file_header_size, program_header_size, section_header_size, compression_header_size, symbol_size, dyn_size, rela_size, relr_size};
@@ -17,40 +17,40 @@ use crate::section_header::SectionHeaderFields;
 use crate::sym::SymFields;
 use crate::word::ElfWord;
 
-/// A class of ELF files, by its records and their sizes.
+/// A class of ELF files, ELFCLASS32 or ELFCLASS64, by its records and their sizes.
 pub trait ElfClass: Copy {
     ghost class: { Class };
 
     ghost CLASS_BYTE: { ℕ };
 
-    /// The byte of a file's identification that names the class.
+    /// The byte of `e_ident` that names the class: 1 or 2.
     const CLASS_BYTE: u8;
 
-    /// The class's word: as wide as an address.
+    /// A number as wide as an address.
     type Word: ElfWord;
 
-    /// The header of a file.
+    /// The file header.
     type FileHeader: FileHeaderFields;
 
-    /// The header of a segment.
+    /// A program header.
     type ProgramHeader: ProgramHeaderFields;
 
-    /// The header of a section.
+    /// A section header.
     type SectionHeader: SectionHeaderFields;
 
-    /// The header in front of a compressed section's bytes.
+    /// A compression header.
     type CompressionHeader: CompressionFields;
 
-    /// A symbol.
+    /// A symbol table entry.
     type Sym: SymFields;
 
     /// An entry of the dynamic section.
     type Dyn: DynFields;
 
-    /// A relocation with an addend.
+    /// A RELA record.
     type Rela: RelaFields;
 
-    /// A word of a table of relative relocations.
+    /// An entry of a table of relative relocations.
     type Relr: RelrFields;
 
     /// The header of a note.
@@ -58,17 +58,17 @@ pub trait ElfClass: Copy {
 
     ghost FILE_HEADER_SIZE: { ℕ };
 
-    /// The size of the header of a file.
+    /// The size of the file header.
     const FILE_HEADER_SIZE: u16;
 
     ghost PROGRAM_HEADER_SIZE: { ℕ };
 
-    /// The size of the header of a segment.
+    /// The size of a program header.
     const PROGRAM_HEADER_SIZE: u16;
 
     ghost SECTION_HEADER_SIZE: { ℕ };
 
-    /// The size of the header of a section.
+    /// The size of a section header.
     const SECTION_HEADER_SIZE: u16;
 
     ghost ADDRESS_SIZE: { ℕ };
@@ -83,17 +83,17 @@ pub trait ElfClass: Copy {
 
     ghost RELA_ENTRY_SIZE: { ℕ };
 
-    /// The size of a relocation with an addend.
+    /// The size of a RELA record.
     const RELA_ENTRY_SIZE: u64;
 
     ghost RELR_ENTRY_SIZE: { ℕ };
 
-    /// The size of a word of a table of relative relocations.
+    /// The size of an entry of a table of relative relocations.
     const RELR_ENTRY_SIZE: u64;
 
     ghost SYMTAB_ENTRY_SIZE: { ℕ };
 
-    /// The size of a symbol.
+    /// The size of a symbol table entry.
     const SYMTAB_ENTRY_SIZE: u64;
 
     ghost DYNAMIC_ENTRY_SIZE: { ℕ };
@@ -108,7 +108,7 @@ pub trait ElfClass: Copy {
 
     ghost GNU_HASH_BLOOM_SIZE: { ℕ };
 
-    /// The size of a word of the filter of a GNU hash table.
+    /// The size of a word of the Bloom filter of a GNU hash table.
     const GNU_HASH_BLOOM_SIZE: u64;
 
     ghost ADDRESS_ALIGNMENT: { ℕ };
@@ -118,12 +118,12 @@ pub trait ElfClass: Copy {
 
     ghost PROGRAM_HEADER_ALIGNMENT: { ℕ };
 
-    /// The alignment of the headers of segments.
+    /// The alignment of program headers.
     const PROGRAM_HEADER_ALIGNMENT: u64;
 
     ghost SECTION_HEADER_ALIGNMENT: { ℕ };
 
-    /// The alignment of the headers of sections.
+    /// The alignment of section headers.
     const SECTION_HEADER_ALIGNMENT: u64;
 
     ghost GOT_ENTRY_ALIGNMENT: { ℕ };
@@ -133,7 +133,7 @@ pub trait ElfClass: Copy {
 
     ghost RELA_ENTRY_ALIGNMENT: { ℕ };
 
-    /// The alignment of relocations with addends.
+    /// The alignment of RELA records.
     const RELA_ENTRY_ALIGNMENT: u64;
 
     ghost RELR_ENTRY_ALIGNMENT: { ℕ };
@@ -148,7 +148,7 @@ pub trait ElfClass: Copy {
 
     ghost SYMTAB_ENTRY_ALIGNMENT: { ℕ };
 
-    /// The alignment of symbols.
+    /// The alignment of symbol table entries.
     const SYMTAB_ENTRY_ALIGNMENT: u64;
 
     ghost VERSION_D_ALIGNMENT: { ℕ };
@@ -229,8 +229,8 @@ pub trait ElfClass: Copy {
         × (GNU_PROPERTY_ALIGNMENT ≡ Self.Word.BYTES) };
 }
 
-/// A symbol that names its class.
+/// A symbol table entry that names its class.
 pub trait ElfSymbol {
-    /// The class of the symbol.
+    /// The class of the file.
     type Class: ElfClass;
 }

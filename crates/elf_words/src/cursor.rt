@@ -1,5 +1,5 @@
-//! A cursor over some bytes, which reads numbers of four bytes, numbers in LEB128 (DWARF 5, 7.6) and texts
-//! from the front. Contracts see it as the bytes that are left. A refusal leaves the cursor where it was.
+//! A cursor over a byte slice, which reads numbers of four bytes, numbers in LEB128 (DWARF 5, 7.6) and strings.
+//! Contracts see it as the bytes after it. After an error the cursor is unchanged.
 
 ghost use Rattle.std.specs.Prelude.{◌≡◌, length, nat_lt, option_map, Some, None, if◌then◌else◌};
 ghost use Rattle.std.specs.Str.{is_utf8};
@@ -11,7 +11,7 @@ use crate::little_endian::read_u32;
 use elf_format::CursorError;
 use std::marker::Model;
 
-/// Some bytes, read from the front. A refused read takes nothing.
+/// A cursor over a byte slice. After an error it is unchanged.
 #[derive(Clone, Debug, Drop)]
 pub struct ByteCursor<'a> {
     bytes: &'a [u8],
@@ -26,21 +26,21 @@ impl<'a> Model for ByteCursor<'a> {
 }
 
 impl<'a> ByteCursor<'a> {
-    /// A cursor at the first of some bytes.
+    /// Returns a cursor at the first byte.
     pub fn new(bytes: &'a [u8]) -> ByteCursor<'a>
         ensures { result ≡ bytes.now }
     {
         ByteCursor { bytes }
     }
 
-    /// The bytes that are not read yet.
+    /// Returns the bytes after the cursor.
     pub fn rest(&self) -> &'a [u8]
         ensures { result.now ≡ self.now }
     {
         self.bytes
     }
 
-    /// The number of four bytes, the lowest first. `Short` exactly where fewer are left.
+    /// Reads a little-endian number of four bytes. `Short` exactly where fewer follow.
     #[tactic(auto, unfolding(elf_format::specs::Cursor::u32_front))]
     pub fn read_u32(&mut self) -> Result<u32, CursorError>
         ensures { Takes (λ n. n) result self.old self.new (u32_front self.old) }
@@ -53,8 +53,8 @@ impl<'a> ByteCursor<'a> {
         Ok(number)
     }
 
-    /// The text before the first zero byte, which is taken too. `Short` exactly where no byte is zero, else
-    /// `NotUtf8` exactly where the bytes before it are no UTF-8.
+    /// Reads the string before the first zero byte, and that byte. `Short` exactly where no byte is zero, else
+    /// `NotUtf8` exactly where the string is not UTF-8.
     #[tactic(auto, unfolding(elf_format::specs::Cursor::string_front))]
     pub fn read_string(&mut self) -> Result<&'a str, CursorError>
         ensures { Takes (λ text. text.now) result self.old self.new (string_front self.old) }
@@ -69,8 +69,8 @@ impl<'a> ByteCursor<'a> {
         Ok(text)
     }
 
-    /// A number in LEB128. `TooLong` where its tenth byte says that another follows, or where 64 bits do not
-    /// hold it; else `Short` where the bytes end first.
+    /// Reads a number in LEB128. `TooLong` where the tenth byte says that another follows, or where the number
+    /// does not fit 64 bits; else `Short` where the bytes end first.
     #[tactic(auto, unfolding(elf_format::specs::Leb128::uleb128))]
     pub fn read_uleb128(&mut self) -> Result<u64, CursorError>
         ensures { Takes (λ n. n) result self.old self.new (uleb128 self.old) }
@@ -84,7 +84,7 @@ impl<'a> ByteCursor<'a> {
         Ok(value)
     }
 
-    /// A signed number in LEB128, refused as `read_uleb128` refuses.
+    /// Reads a signed number in LEB128. The errors are those of `read_uleb128`.
     #[tactic(auto, unfolding(elf_format::specs::Leb128::sleb128))]
     pub fn read_sleb128(&mut self) -> Result<i64, CursorError>
         ensures { Takes (λ n. n) result self.old self.new (sleb128 self.old) }
@@ -99,7 +99,7 @@ impl<'a> ByteCursor<'a> {
     }
 }
 
-/// Where the first zero byte is.
+/// Returns the offset of the first zero byte, if any.
 fn zero_at(bytes: &[u8]) -> Option<usize>
     ensures { result ≡ (if nat_lt (before_zero bytes.now) (length bytes.now) then Some (before_zero bytes.now) else None) }
 {
@@ -111,7 +111,7 @@ fn zero_at(bytes: &[u8]) -> Option<usize>
     None
 }
 
-/// Some bytes as text, where they are UTF-8.
+/// Returns the bytes as text, or None where they are not UTF-8.
 fn text_of(bytes: &[u8]) -> Option<&str>
     ensures { option_map (λ text. text.now) result ≡ (if is_utf8 bytes.now then Some bytes.now else None) }
 {

@@ -1,14 +1,14 @@
-//! Numbers in LEB128 (DWARF 5, 7.6): seven bits a byte, the lowest first, and a byte from 128 on says that
-//! another follows. Numbers have 64 bits at most, and so ten bytes.
+//! Numbers in LEB128 (DWARF 5, 7.6): seven bits a byte, the lowest first. A byte of 128 or more means that
+//! another byte follows. A number has at most 64 bits, and so at most ten bytes.
 
 ghost use Rattle.std.specs.Prelude.{◌≡◌, ◌+◌, ◌*◌, ◌^◌, ◌<◌, ◌≤◌, ◌++◌, length, Some, None, IfOk, is_ok, if◌then◌else◌};
-ghost use Rattle.elf_format.specs.Leb128.{group_sum, signed_below, is_i64, number_bytes, groups, groups_before, uleb128_form, sleb128_form, magnitude};
+ghost use Rattle.elf_format.specs.Leb128.{group_sum, signed_below, is_i64, number_bytes, leb128_groups, groups_before, uleb128_form, sleb128_form, magnitude};
 ghost use Rattle.elf_format.specs.Cursor.{Returns};
 
 use elf_format::CursorError;
 use std::alloc::AllocError;
 
-/// The bytes of the number at the front, and those after it.
+/// Returns the bytes of the first number, and the bytes after it.
 pub(crate) fn split_number(bytes: &[u8]) -> Result<(&[u8], &[u8]), CursorError>
     ensures value { Returns (λ x. (x.0.now, x.1.now)) result (number_bytes bytes.now) }
     ensures short { IfOk result (λ x. length x.0.now ≤ 10) }
@@ -24,7 +24,7 @@ pub(crate) fn split_number(bytes: &[u8]) -> Result<(&[u8], &[u8]), CursorError>
     Err(CursorError::Short)
 }
 
-/// The sum of a number's groups, and the scale that it is below.
+/// Returns the sum of the groups of seven bits, and the power of 128 that bounds it.
 pub(crate) fn sum_of_groups(bytes: &[u8]) -> (u128, u128)
     requires { length bytes.now ≤ 10 }
     ensures sum { result.0 ≡ group_sum bytes.now }
@@ -41,7 +41,7 @@ pub(crate) fn sum_of_groups(bytes: &[u8]) -> (u128, u128)
     (sum, scale)
 }
 
-/// The number that a sum below a scale stands for in two's complement, where 64 bits hold it.
+/// Returns the number of a sum in two's complement, or None where it does not fit 64 bits.
 pub(crate) fn signed_from(sum: u128, scale: u128) -> Option<i64>
     requires below { sum < scale }
     requires small { scale < 2 ^ 71 }
@@ -55,7 +55,7 @@ pub(crate) fn signed_from(sum: u128, scale: u128) -> Option<i64>
     }
 }
 
-/// How many groups a number needs before its last one, of ten at most.
+/// Returns how many bytes of a number precede its last one, at most nine.
 fn count_groups_before(number: u128) -> usize
     ensures value { result ≡ groups_before 9 number }
     ensures small { result ≤ 9 }
@@ -69,10 +69,10 @@ fn count_groups_before(number: u128) -> usize
     count
 }
 
-/// Puts a number's groups at the end, so many before the last one.
+/// Appends the groups of a number, `count` of them before the last one.
 fn push_groups(out: &mut Vec<u8>, number: u128, count: usize) -> Result<(), AllocError>
     requires { count ≤ 9 }
-    ensures { out.new.items ≡ (if is_ok result then out.old.items ++ groups count number else out.old.items) }
+    ensures { out.new.items ≡ (if is_ok result then out.old.items ++ leb128_groups count number else out.old.items) }
 {
     let mut bytes = [0u8; 10];
     let mut rest = number;
@@ -84,7 +84,7 @@ fn push_groups(out: &mut Vec<u8>, number: u128, count: usize) -> Result<(), Allo
     out.extend_from_slice(&bytes[..count + 1])
 }
 
-/// How many bytes a number has in its shortest form: 1 to 10.
+/// Returns the size of the shortest form of a number: 1 to 10 bytes.
 #[tactic(auto, unfolding(elf_format::specs::Leb128::uleb128_size))]
 pub fn uleb128_size(value: u64) -> usize
     ensures { result ≡ Rattle.elf_format.specs.Leb128.uleb128_size value }
@@ -92,7 +92,7 @@ pub fn uleb128_size(value: u64) -> usize
     count_groups_before(u128::from(value)) + 1
 }
 
-/// Puts the shortest form of a number at the end. Where there is no memory, `out` stays as it was.
+/// Appends the shortest form of a number. Where memory runs out, `out` is unchanged.
 #[tactic(auto, unfolding(elf_format::specs::Leb128::uleb128_form))]
 pub fn push_uleb128(out: &mut Vec<u8>, value: u64) -> Result<(), AllocError>
     ensures { out.new.items ≡ (if is_ok result then out.old.items ++ uleb128_form value else out.old.items) }
@@ -101,7 +101,7 @@ pub fn push_uleb128(out: &mut Vec<u8>, value: u64) -> Result<(), AllocError>
     push_groups(out, number, count_groups_before(number))
 }
 
-/// Puts the shortest form of a signed number at the end. Where there is no memory, `out` stays as it was.
+/// Appends the shortest form of a signed number. Where memory runs out, `out` is unchanged.
 #[tactic(auto, unfolding(elf_format::specs::Leb128::sleb128_form))]
 pub fn push_sleb128(out: &mut Vec<u8>, value: i64) -> Result<(), AllocError>
     ensures { out.new.items ≡ (if is_ok result then out.old.items ++ sleb128_form value else out.old.items) }
@@ -116,7 +116,7 @@ pub fn push_sleb128(out: &mut Vec<u8>, value: i64) -> Result<(), AllocError>
     push_groups(out, number, count)
 }
 
-/// A number without its sign: -1 is 0, -2 is 1.
+/// Returns the magnitude of a number: 0 for -1, 1 for -2.
 fn magnitude_of(value: i64) -> u128
     ensures value { result ≡ magnitude value }
     ensures small { result < 2 ^ 63 }

@@ -1,7 +1,7 @@
-//! Words, records and classes of ELF files (System V gABI): numbers at a place of some bytes and at the
-//! front of a cursor, LEB128, alignments, records as the bytes that a file holds, tables of them, and the
-//! fields that both classes name alike. A class's records stand in a crate of their own; code that serves
-//! both is generic over `ElfClass`.
+//! Numbers, records and classes of ELF files (System V gABI): little-endian numbers at an offset, LEB128,
+//! alignments, records as the bytes of a file, tables of records, and the fields that both classes name
+//! alike. The records of a class stand in a crate of their own. Code for both classes is generic over
+//! `ElfClass`. The definitions are those of `elf_format`.
 #![tactic(auto)]
 
 mod alignment;
@@ -11,9 +11,11 @@ mod compression;
 mod cursor;
 mod dynamic;
 mod file_header;
+mod file_type;
 mod leb128;
 mod little_endian;
 mod note_header;
+mod numbers;
 mod program_header;
 mod record;
 mod records;
@@ -37,9 +39,14 @@ pub use cursor::ByteCursor;
 pub use dynamic::DynFields;
 pub use elf_format::{Architecture, CursorError, SectionIndex, Span, SymbolIndex};
 pub use file_header::FileHeaderFields;
+pub use file_type::{ET_DYN, ET_REL};
 pub use leb128::{push_sleb128, push_uleb128, uleb128_size};
 pub use little_endian::{read_u8, read_u16, read_u32, read_u64, u32_from_slice, u64_from_slice};
 pub use note_header::NoteHeader;
+pub use numbers::{
+    file_types_are_the_standards, section_flags_are_the_standards,
+    section_indexes_are_the_standards, section_types_are_the_standards,
+};
 pub use program_header::ProgramHeaderFields;
 pub use record::Record;
 pub use records::Records;
@@ -61,6 +68,3 @@ pub use span::first_outside;
 pub use sym::SymFields;
 pub use word::{ElfWord, Field, FieldError};
 pub use zero_byte::first_zero;
-
-#[cfg(test)]
-mod tests;

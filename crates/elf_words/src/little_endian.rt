@@ -1,10 +1,10 @@
-//! Numbers at a place of some bytes, the lowest byte first (gABI, Data Representation). The place counts
-//! bytes from 0, and the number's bytes have to be there.
+//! Little-endian numbers at an offset (gABI, Data Representation). Offsets are in bytes from 0. Each function
+//! requires that the bytes of the number are there.
 
 ghost use Rattle.std.specs.Prelude.{◌≡◌, ◌+◌, ◌≤◌, length};
 ghost use Rattle.elf_format.specs.Bytes.{le};
 
-/// The byte at a place.
+/// Returns the byte at an offset.
 #[tactic(auto, unfolding(elf_format::specs::Bytes::le))]
 pub fn read_u8(bytes: &[u8], at: usize) -> u8
     requires { at + 1 ≤ length bytes.now }
@@ -13,7 +13,7 @@ pub fn read_u8(bytes: &[u8], at: usize) -> u8
     bytes[at]
 }
 
-/// The number in the two bytes from a place on.
+/// Returns the number in the two bytes at an offset.
 #[tactic(auto, unfolding(elf_format::specs::Bytes::le))]
 pub fn read_u16(bytes: &[u8], at: usize) -> u16
     requires { at + 2 ≤ length bytes.now }
@@ -22,7 +22,7 @@ pub fn read_u16(bytes: &[u8], at: usize) -> u16
     u16::from_le_bytes([bytes[at], bytes[at + 1]])
 }
 
-/// The number in the four bytes from a place on.
+/// Returns the number in the four bytes at an offset.
 #[tactic(auto, unfolding(elf_format::specs::Bytes::le))]
 pub fn read_u32(bytes: &[u8], at: usize) -> u32
     requires { at + 4 ≤ length bytes.now }
@@ -31,7 +31,7 @@ pub fn read_u32(bytes: &[u8], at: usize) -> u32
     u32::from_le_bytes([bytes[at], bytes[at + 1], bytes[at + 2], bytes[at + 3]])
 }
 
-/// The number in the eight bytes from a place on.
+/// Returns the number in the eight bytes at an offset.
 #[tactic(auto, unfolding(elf_format::specs::Bytes::le))]
 pub fn read_u64(bytes: &[u8], at: usize) -> u64
     requires { at + 8 ≤ length bytes.now }
@@ -49,7 +49,7 @@ pub fn read_u64(bytes: &[u8], at: usize) -> u64
     ])
 }
 
-/// The number in the first four bytes: there have to be four at least.
+/// Returns the number in the first four bytes. Requires at least four.
 pub fn u32_from_slice(bytes: &[u8]) -> u32
     requires { 4 ≤ length bytes.now }
     ensures { result ≡ le bytes.now 0 4 }
@@ -57,7 +57,7 @@ pub fn u32_from_slice(bytes: &[u8]) -> u32
     read_u32(bytes, 0)
 }
 
-/// The number in the first eight bytes: there have to be eight at least.
+/// Returns the number in the first eight bytes. Requires at least eight.
 pub fn u64_from_slice(bytes: &[u8]) -> u64
     requires { 8 ≤ length bytes.now }
     ensures { result ≡ le bytes.now 0 8 }

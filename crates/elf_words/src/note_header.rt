@@ -1,14 +1,14 @@
-//! The header of a note (gABI, Note Section), which has one form in both classes.
+//! The header of a note (gABI, Note Section), which has the same form in both classes.
 
 ghost use Rattle.std.proofs.Common.{lit<};
 ghost use Rattle.std.specs.Prelude.{◌≡◌, replicate};
 ghost use Rattle.elf_format.specs.Bytes.{get};
-ghost use Rattle.elf_format.specs.Table as places;
+ghost use Rattle.elf_format.specs.Table as fields;
 
 use crate::little_endian::read_u32;
 use crate::record::Record;
 
-/// The header of a note.
+/// The header of a note (gABI, Note Section).
 #[derive(Clone, Copy)]
 pub struct NoteHeader {
     pub bytes: [u8; 12],
@@ -40,30 +40,30 @@ impl Record for NoteHeader {
 impl Default for NoteHeader {
     ghost is_default = { λ r. r.bytes ≡ replicate 12 0 };
 
-    /// The record of zero bytes.
+    /// Returns the header of zero bytes.
     fn default() -> Self {
         NoteHeader::zeroed()
     }
 }
 
 impl NoteHeader {
-    /// How many bytes the note's name has.
+    /// Returns `n_namesz`, the size of the name in bytes.
     pub fn n_namesz(&self) -> u32
-        ensures { result ≡ get places.n_namesz self.now.bytes }
+        ensures { result ≡ get fields.n_namesz self.now.bytes }
     {
         read_u32(&self.bytes, 0)
     }
 
-    /// How many bytes the note's description has.
+    /// Returns `n_descsz`, the size of the descriptor in bytes.
     pub fn n_descsz(&self) -> u32
-        ensures { result ≡ get places.n_descsz self.now.bytes }
+        ensures { result ≡ get fields.n_descsz self.now.bytes }
     {
         read_u32(&self.bytes, 4)
     }
 
-    /// What the description says, by the note's name.
+    /// Returns `n_type`, the type of the descriptor. Its meaning depends on the name.
     pub fn n_type(&self) -> u32
-        ensures { result ≡ get places.n_type self.now.bytes }
+        ensures { result ≡ get fields.n_type self.now.bytes }
     {
         read_u32(&self.bytes, 8)
     }

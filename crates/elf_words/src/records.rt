@@ -1,5 +1,5 @@
-//! Tables of records of one size, one after another (as gABI's section header table, symbol table and
-//! relocation sections). A table is seen as the list of its records, each by its bytes.
+//! Tables of records of one size, one after another, as the section header table, the symbol table and
+//! relocation sections (gABI). Contracts see a table as the list of its records, each by its bytes.
 
 ghost use Rattle.std.specs.Prelude.{◌≡◌, ◌*◌, ◌^◌, ◌<◌, ◌≤◌, length, option_map, slice_get};
 ghost use Rattle.std.specs.Iterator.{YieldsFirstBy, item_count};
@@ -8,8 +8,7 @@ ghost use Rattle.elf_format.specs.Bytes.{records, whole_records};
 use crate::record::Record;
 use std::marker::{Model, PhantomData};
 
-/// Records of one type that follow one another in some bytes. As an iterator it gives the records from
-/// the first on.
+/// Records of one type, one after another in a byte slice. As an iterator it yields them in order.
 #[derive(Clone, Drop)]
 pub struct Records<'a, R: Record> {
     bytes: &'a [u8],
@@ -29,7 +28,7 @@ impl<'a, R: Record> Model for Records<'a, R> {
 }
 
 impl<'a, R: Record> Records<'a, R> {
-    /// So many records, from the first byte on.
+    /// Returns the table of `count` records from the first byte on. Requires the bytes of all of them.
     pub fn new(bytes: &'a [u8], count: usize) -> Self
         requires { R.SIZE * count ≤ length bytes.now }
         ensures { result ≡ records R.SIZE count bytes.now }
@@ -41,14 +40,14 @@ impl<'a, R: Record> Records<'a, R> {
         }
     }
 
-    /// The whole records of some bytes. A cut one at the end does not count.
+    /// Returns the table of the whole records in some bytes. A truncated one at the end does not count.
     pub fn whole(bytes: &'a [u8]) -> Self
         ensures { result ≡ whole_records R.SIZE bytes.now }
     {
         Records::new(bytes, bytes.len() / R::SIZE)
     }
 
-    /// The same records, to go over.
+    /// Returns an iterator over the records.
     #[tactic(auto, using(elf_format::proofs::RecordLemmas::length_records))]
     pub fn iter(&self) -> Records<'a, R>
         ensures same { result ≡ self.now }
@@ -61,7 +60,7 @@ impl<'a, R: Record> Records<'a, R> {
         }
     }
 
-    /// How many records there are.
+    /// Returns the number of records.
     #[tactic(auto, using(elf_format::proofs::RecordLemmas::length_records))]
     pub fn len(&self) -> usize
         ensures { result ≡ length self.now }
@@ -69,7 +68,7 @@ impl<'a, R: Record> Records<'a, R> {
         self.count
     }
 
-    /// The record at an index from 0, or None from the count on.
+    /// Returns the record at an index from 0, or None exactly where the index is the count or more.
     #[tactic(auto, using(elf_format::proofs::RecordLemmas::record_at, elf_format::proofs::RecordLemmas::no_record_at))]
     pub fn get(&self, index: usize) -> Option<R>
         ensures { option_map R.contents result ≡ slice_get self.now index }

@@ -1,34 +1,34 @@
-//! A relocation with an addend (gABI, Relocation), by the names of its fields. Numbers of the class's word
-//! are answered as 64 bits.
+//! A RELA record (gABI, Relocation), by the names of its fields. Numbers as wide as an address are returned as
+//! 64 bits.
 
 ghost use Rattle.std.specs.Prelude.{◌≡◌, ◌/◌, ◌%◌};
 ghost use Rattle.elf_format.specs.Bytes.{get};
 ghost use Rattle.elf_format.specs.Class.{Class};
-ghost use Rattle.elf_format.specs.Class as places;
+ghost use Rattle.elf_format.specs.Class as fields;
 
 use crate::record::Record;
 
-/// A relocation with an addend, by its fields.
+/// A RELA record, by its fields (gABI, Relocation).
 pub trait RelaFields: Record {
     ghost class: { Class };
 
-    /// Where it applies: in an object, bytes from the start of its section.
+    /// Returns `r_offset`: in a relocatable file, the offset in the section to which the relocation applies.
     fn r_offset(&self) -> u64
-        ensures { result ≡ get (places.r_offset class) (Self.contents self.now) };
+        ensures { result ≡ get (fields.r_offset class) (Self.contents self.now) };
 
-    /// Its symbol and its kind, put together as the class does.
+    /// Returns `r_info`, which holds the symbol index and the relocation type.
     fn r_info(&self) -> u64
-        ensures { result ≡ get (places.r_info class) (Self.contents self.now) };
+        ensures { result ≡ get (fields.r_info class) (Self.contents self.now) };
 
-    /// The index of its symbol, 0 for none.
+    /// Returns the symbol index of `r_info`, 0 for none.
     fn r_sym(&self) -> u32
-        ensures { result ≡ get (places.r_info class) (Self.contents self.now) / places.symbol_unit class };
+        ensures { result ≡ get (fields.r_info class) (Self.contents self.now) / fields.symbol_unit class };
 
-    /// Its kind, a number of the machine.
+    /// Returns the relocation type of `r_info`. Its meaning depends on the machine.
     fn r_type(&self) -> u32
-        ensures { result ≡ get (places.r_info class) (Self.contents self.now) % places.symbol_unit class };
+        ensures { result ≡ get (fields.r_info class) (Self.contents self.now) % fields.symbol_unit class };
 
-    /// What is added to the symbol's value.
+    /// Returns `r_addend`, which is added to the value of the symbol.
     fn r_addend(&self) -> i64
-        ensures { result ≡ places.signed_word class (get (places.r_addend class) (Self.contents self.now)) };
+        ensures { result ≡ fields.signed_word class (get (fields.r_addend class) (Self.contents self.now)) };
 }

@@ -1,17 +1,17 @@
-//! A word of a table of relative relocations (gABI, Relocation, RELR), by the name of its field.
+//! An entry of a table of relative relocations (gABI, Relocation, RELR).
 
 ghost use Rattle.std.specs.Prelude.{◌≡◌};
 ghost use Rattle.elf_format.specs.Bytes.{get};
 ghost use Rattle.elf_format.specs.Class.{Class};
-ghost use Rattle.elf_format.specs.Class as places;
+ghost use Rattle.elf_format.specs.Class as fields;
 
 use crate::record::Record;
 
-/// A word of a table of relative relocations.
+/// An entry of a table of relative relocations (gABI, Relocation, RELR).
 pub trait RelrFields: Record {
     ghost class: { Class };
 
-    /// An address, where it is even, else a bit for each word after the last address.
+    /// Returns the entry: an address where it is even, else a bitmap of the addresses after the last one.
     fn r_value(&self) -> u64
-        ensures { result ≡ get (places.r_value class) (Self.contents self.now) };
+        ensures { result ≡ get (fields.r_value class) (Self.contents self.now) };
 }

@@ -1,29 +1,29 @@
-//! The flags of sections (gABI, Section Attribute Flags; GNU_RETAIN of the GNU tools), as single bits.
+//! The section flags (gABI, Section Attribute Flags; `SHF_GNU_RETAIN` of the GNU tools), each one bit.
 
 ghost use Rattle.std.specs.Prelude.{◌≡◌, ◌==◌};
 ghost use Rattle.std.specs.Int.{w64, bit_not};
 ghost use Rattle.std.specs.Int.Bits.{bit_and};
 ghost use Rattle.elf_format.specs.Flags as spec;
 
-/// Writable in a program's memory.
+/// The section is writable.
 pub const SHF_WRITE: u64 = 0x1;
-/// In a program's memory.
+/// The section occupies memory.
 pub const SHF_ALLOC: u64 = 0x2;
-/// Code.
+/// The section holds code.
 pub const SHF_EXECINSTR: u64 = 0x4;
-/// Entries that are equal may become one.
+/// Equal entries may be merged.
 pub const SHF_MERGE: u64 = 0x10;
-/// Strings, each with a zero byte at its end.
+/// The entries are strings, each with a zero byte at its end.
 pub const SHF_STRINGS: u64 = 0x20;
-/// A member of a group of sections.
+/// The section is a member of a group.
 pub const SHF_GROUP: u64 = 0x200;
-/// Each thread has its own.
+/// Each thread has its own copy.
 pub const SHF_TLS: u64 = 0x400;
 /// The bytes are compressed.
 pub const SHF_COMPRESSED: u64 = 0x800;
-/// Not to be dropped, even if nothing refers to it.
+/// The section stays even if nothing refers to it.
 pub const SHF_GNU_RETAIN: u64 = 0x20_0000;
-/// Not to be put into a program.
+/// The section is left out of a program.
 pub const SHF_EXCLUDE: u64 = 0x8000_0000;
 
 /// The flags of a section.
@@ -31,21 +31,21 @@ pub const SHF_EXCLUDE: u64 = 0x8000_0000;
 pub struct SectionFlags(pub u64);
 
 impl SectionFlags {
-    /// Whether all of some flags are among these.
+    /// Reports whether all of `flags` are set.
     pub fn contains(self, flags: SectionFlags) -> bool
         ensures { result ≡ (bit_and self.0 flags.0 == flags.0) }
     {
         self.0 & flags.0 == flags.0
     }
 
-    /// These flags without some.
+    /// Returns these flags with `flags` cleared.
     pub fn without(self, flags: SectionFlags) -> SectionFlags
         ensures { result.0 ≡ bit_and self.0 (bit_not w64 flags.0) }
     {
         SectionFlags(self.0 & !flags.0)
     }
 
-    /// Whether the section is in a program's memory.
+    /// Reports whether `SHF_ALLOC` is set.
     pub fn is_alloc(self) -> bool
         ensures { result ≡ spec.has_flag self.0 spec.shf_alloc }
     {
@@ -53,7 +53,7 @@ impl SectionFlags {
     }
 }
 
-/// Whether a flag, which is one bit, is among some.
+/// Reports whether a bit of `flag` is set.
 pub(crate) fn has_flag(flags: u64, flag: u64) -> bool
     ensures { result ≡ spec.has_flag flags flag }
 {

@@ -1,6 +1,6 @@
-//! The section indexes that have a meaning of their own (gABI, Special Section Indexes).
+//! The special section indexes (gABI, Special Section Indexes).
 
-/// The first section index that has a meaning of its own.
+/// The first reserved section index.
 pub const SHN_LORESERVE: u16 = 0xff00;
-/// The index does not fit the field, and stands elsewhere.
+/// The section index does not fit the field. Another table has it.
 pub const SHN_XINDEX: u16 = 0xffff;

@@ -1,40 +1,41 @@
-//! The types of sections (gABI, Sections; GNU symbol versioning; RISC-V and CREL).
+//! The section types (gABI, Sections; GNU symbol versioning; RISC-V ELF psABI; CREL).
 
 ghost use Rattle.std.specs.Prelude.{◌≡◌, ◌==◌};
+ghost use Rattle.elf_format.specs.SectionType.{sht_rela, sht_rel, sht_symtab, sht_strtab};
 
 /// An unused section header.
 pub const SHT_NULL: u32 = 0;
-/// Bytes whose meaning the program knows.
+/// Bytes whose meaning the program defines.
 pub const SHT_PROGBITS: u32 = 1;
-/// The symbols of an object.
+/// The symbol table of a relocatable file.
 pub const SHT_SYMTAB: u32 = 2;
-/// Strings.
+/// A string table.
 pub const SHT_STRTAB: u32 = 3;
-/// Relocations with addends.
+/// Relocations with addends (RELA).
 pub const SHT_RELA: u32 = 4;
-/// What a dynamic linker has to know.
+/// Information for dynamic linking.
 pub const SHT_DYNAMIC: u32 = 6;
 /// Notes.
 pub const SHT_NOTE: u32 = 7;
-/// No bytes in the file.
+/// A section that takes no room in the file.
 pub const SHT_NOBITS: u32 = 8;
-/// Relocations without addends.
+/// Relocations without addends (REL).
 pub const SHT_REL: u32 = 9;
-/// The symbols of a dynamic file.
+/// The symbol table for dynamic linking.
 pub const SHT_DYNSYM: u32 = 11;
-/// A group of sections.
+/// A section group.
 pub const SHT_GROUP: u32 = 17;
-/// The section indexes of symbols that do not fit their records.
+/// The section indexes of symbols whose own field is too small.
 pub const SHT_SYMTAB_SHNDX: u32 = 18;
-/// Relocations in CREL.
+/// Relocations in the compact form (CREL).
 pub const SHT_CREL: u32 = 0x4000_0014;
-/// The versions that a file defines.
+/// The version definitions of a file.
 pub const SHT_GNU_VERDEF: u32 = 0x6fff_fffd;
-/// The versions that a file needs.
+/// The versions needed by a file.
 pub const SHT_GNU_VERNEED: u32 = 0x6fff_fffe;
-/// The version indexes of symbols.
+/// The version index of each symbol.
 pub const SHT_GNU_VERSYM: u32 = 0x6fff_ffff;
-/// The attributes of a RISC-V object.
+/// The attributes of a RISC-V file.
 pub const SHT_RISCV_ATTRIBUTES: u32 = 0x7000_0003;
 
 /// The type of a section.
@@ -42,30 +43,30 @@ pub const SHT_RISCV_ATTRIBUTES: u32 = 0x7000_0003;
 pub struct SectionType(pub u32);
 
 impl SectionType {
-    /// Whether the section holds relocations with addends.
+    /// Reports whether the type is `SHT_RELA`.
     pub fn is_rela(self) -> bool
-        ensures { result ≡ (self.0 == 4) }
+        ensures { result ≡ (self.0 == sht_rela) }
     {
         self.0 == SHT_RELA
     }
 
-    /// Whether the section holds relocations without addends.
+    /// Reports whether the type is `SHT_REL`.
     pub fn is_rel(self) -> bool
-        ensures { result ≡ (self.0 == 9) }
+        ensures { result ≡ (self.0 == sht_rel) }
     {
         self.0 == SHT_REL
     }
 
-    /// Whether the section holds the symbols of an object.
+    /// Reports whether the type is `SHT_SYMTAB`.
     pub fn is_symtab(self) -> bool
-        ensures { result ≡ (self.0 == 2) }
+        ensures { result ≡ (self.0 == sht_symtab) }
     {
         self.0 == SHT_SYMTAB
     }
 
-    /// Whether the section holds strings.
+    /// Reports whether the type is `SHT_STRTAB`.
     pub fn is_strtab(self) -> bool
-        ensures { result ≡ (self.0 == 3) }
+        ensures { result ≡ (self.0 == sht_strtab) }
     {
         self.0 == SHT_STRTAB
     }

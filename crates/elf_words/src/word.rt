@@ -1,5 +1,5 @@
-//! The words of the two classes (gABI, Data Representation): 32 bits in class 32, 64 bits in class 64,
-//! and the refusal of a number that a field cannot hold.
+//! Numbers as wide as an address (gABI, Data Representation): 32 bits in ELFCLASS32, 64 bits in ELFCLASS64.
+//! And the error for a number that does not fit a field.
 
 ghost use Rattle.std.specs.Prelude.{◌≡◌, ℕ, ◌*◌, ◌^◌, ◌<◌, ◌≤◌, length, MatchResult};
 ghost use Rattle.elf_format.specs.Bytes.{le};
@@ -8,94 +8,94 @@ ghost use Rattle.elf_words.specs.declared.word.Field.TheVariants.{Word};
 
 use crate::little_endian::{read_u32, read_u64};
 
-/// The field that a refused number was for, by its name in gABI.
+/// The field that a number does not fit, by its name in gABI.
 #[derive(Clone, Copy, Debug, PartialEq, Eq)]
 pub enum Field {
-    /// A class's word by itself.
+    /// A number as wide as an address, in no record.
     Word,
-    /// The address at which a program starts.
+    /// `e_entry`, the address at which the program starts.
     EEntry,
-    /// Where the table of program headers begins.
+    /// `e_phoff`, the offset of the program header table.
     EPhoff,
-    /// Where the table of section headers begins.
+    /// `e_shoff`, the offset of the section header table.
     EShoff,
-    /// Where a segment's bytes begin in the file.
+    /// `p_offset`, the offset of the segment in the file.
     POffset,
-    /// A segment's address.
+    /// `p_vaddr`, the address of the segment.
     PVaddr,
-    /// A segment's physical address.
+    /// `p_paddr`, the physical address of the segment.
     PPaddr,
-    /// How many bytes a segment has in the file.
+    /// `p_filesz`, the size of the segment in the file.
     PFilesz,
-    /// How many bytes a segment has in memory.
+    /// `p_memsz`, the size of the segment in memory.
     PMemsz,
-    /// A segment's alignment.
+    /// `p_align`, the alignment of the segment.
     PAlign,
-    /// A section's flags.
+    /// `sh_flags`, the flags of the section.
     ShFlags,
-    /// A section's address.
+    /// `sh_addr`, the address of the section.
     ShAddr,
-    /// Where a section's bytes begin in the file.
+    /// `sh_offset`, the offset of the section in the file.
     ShOffset,
-    /// How many bytes a section has.
+    /// `sh_size`, the size of the section.
     ShSize,
-    /// A section's alignment.
+    /// `sh_addralign`, the alignment of the section.
     ShAddralign,
-    /// The size of a section's records.
+    /// `sh_entsize`, the size of an entry of the section.
     ShEntsize,
-    /// How many bytes a compressed section has without compression.
+    /// `ch_size`, the size of the uncompressed bytes.
     ChSize,
-    /// The alignment of a compressed section's bytes without compression.
+    /// `ch_addralign`, the alignment of the uncompressed bytes.
     ChAddralign,
-    /// A symbol's value.
+    /// `st_value`, the value of the symbol.
     StValue,
-    /// How many bytes a symbol names.
+    /// `st_size`, the size of the symbol.
     StSize,
-    /// The tag of an entry of the dynamic section.
+    /// `d_tag`, the tag of an entry of the dynamic section.
     DTag,
-    /// The number or address of an entry of the dynamic section.
+    /// `d_val` or `d_ptr`, the number or address of an entry of the dynamic section.
     DVal,
-    /// Where a relocation applies.
+    /// `r_offset`, the offset to which a relocation applies.
     ROffset,
-    /// The symbol in a relocation's info.
+    /// The symbol index of `r_info`.
     RInfoSymbol,
-    /// The kind in a relocation's info.
+    /// The relocation type of `r_info`.
     RInfoType,
-    /// A relocation's addend.
+    /// `r_addend`, the addend of a relocation.
     RAddend,
-    /// A word of a table of relative relocations.
+    /// An entry of a table of relative relocations.
     Relr,
 }
 
-/// Why a number is not put into a field. The record stays as it was.
+/// Why a field is not set. The record is unchanged.
 #[derive(Clone, Copy, Debug, PartialEq, Eq)]
 pub enum FieldError {
-    /// The number is above the field's range.
+    /// The number is above the range of the field.
     DoesNotFit { field: Field, value: u64 },
-    /// The number is below the field's range.
+    /// The number is below the range of the field.
     Negative { field: Field, value: i64 },
 }
 
-/// A number of a class's width.
+/// A number as wide as an address of a class.
 pub trait ElfWord: Copy {
     ghost BYTES: { ℕ };
 
     // the number that a word is
     ghost number: { Self → ℕ };
 
-    /// How many bytes a word has.
+    /// The size of the number in bytes.
     const BYTES: usize;
 
-    /// The word of a number, or `DoesNotFit` exactly where the number is 2^(8 * BYTES) or more.
+    /// Returns the word of a number, or `DoesNotFit` exactly where the number is 2^(8 * BYTES) or more.
     fn from_u64(value: u64) -> Result<Self, FieldError>
         ensures { MatchResult result (λ word. (value < 2 ^ (8 * BYTES)) × (number word ≡ value)) (λ e. (2 ^ (8 * BYTES) ≤ value) × (e ≡ DoesNotFit Word value)) };
 
-    /// The word that exactly `BYTES` bytes spell, the lowest byte first.
+    /// Returns the word of little-endian bytes. Requires exactly `BYTES` of them.
     fn from_le_bytes(bytes: &[u8]) -> Self
         requires { length bytes.now ≡ BYTES }
         ensures { number result ≡ le bytes.now 0 BYTES };
 
-    /// The number that a word is.
+    /// Returns the number of a word.
     fn to_u64(self) -> u64
         ensures { result ≡ number self };
 }

@@ -4,7 +4,7 @@ ghost use Rattle.std.specs.Prelude.{◌≡◌, ◌==◌, ◌<◌, length, positi
 
 use memchr::memchr;
 
-/// The place of the first zero byte, if any.
+/// Returns the offset of the first zero byte, or None where there is none.
 pub fn first_zero(bytes: &[u8]) -> Option<usize>
     ensures value { result ≡ position (λ byte. byte == 0) bytes.now }
     ensures bound { IfSome result (λ place. place < length bytes.now) }

@@ -7,7 +7,8 @@ use Rattle.elf_format.specs.declared.error.ElfError.TheVariants.{SectionData, Re
 use Rattle.elf_format.specs.declared.crel.Crel.{Crel}
 use Rattle.elf_format.specs.Bytes.{get}
 use Rattle.elf_format.specs.Class.{Class, sh_type}
-use Rattle.elf_format.specs.Rela.{sht_rela, rela_list}
+use Rattle.elf_format.specs.Rela.{rela_list}
+use Rattle.elf_format.specs.SectionType.{sht_rela}
 use Rattle.elf_format.specs.Section.{sections, section_bytes, section_of_name}
 use Rattle.elf_format.specs.Symbol.{SymbolSection, no_section, in_section, missing, symbols, section_of_symbol}
 use Rattle.gdb_index_format.specs.declared.unit.CuBoundary.{CuBoundary}

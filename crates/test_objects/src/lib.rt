@@ -8,7 +8,8 @@ mod records;
 mod samples;
 mod section;
 
-pub use object_file::{ET_REL, object};
+pub use elf_words::ET_REL;
+pub use object_file::object;
 pub use records::{rela_records, symbol_table};
 pub use samples::{SET_OF_MAIN, UNIT, object_of_two_units, object_with_names, sample};
 pub use section::{Section, plain};

@@ -4,9 +4,6 @@ use crate::section::{Section, plain};
 use elf_words::SHT_STRTAB;
 use std::alloc::{AllocError, Global};
 
-/// The `e_type` of a relocatable file.
-pub const ET_REL: u16 = 1;
-
 /// The sections of an object so far.
 #[derive(Drop)]
 struct Parts {

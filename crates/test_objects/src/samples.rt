@@ -1,9 +1,11 @@
 //! Objects that several tests read.
 
-use crate::object_file::{ET_REL, object};
+use crate::object_file::object;
 use crate::section::{Section, plain};
 use elf_format::Architecture;
-use elf_words::{SHF_ALLOC, SHF_EXECINSTR, SHT_GNU_VERSYM, SHT_RELA, SHT_STRTAB, SHT_SYMTAB};
+use elf_words::{
+    ET_REL, SHF_ALLOC, SHF_EXECINSTR, SHT_GNU_VERSYM, SHT_RELA, SHT_STRTAB, SHT_SYMTAB,
+};
 use std::alloc::{AllocError, Global};
 
 /// A compilation unit (CU) of twelve bytes (DWARF 5, 7.5.1).
