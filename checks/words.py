@@ -47,14 +47,12 @@ def split(line, kind):
         error = re.match(r'\s*#\[error\("(.*)"\)\]', line)
         if error:
             return "", re.sub(r"\{[^}]*\}", "", error.group(1))
-    at, quoted = 0, False
-    while at < len(line):
-        if line[at] == '"' and (at == 0 or line[at - 1] not in "\\'"):
-            quoted = not quoted
-        if not quoted and line.startswith(start, at):
-            return line[:at], line[at:]
-        at += 1
-    return line, ""
+    if start not in line:
+        return line, ""
+    # a mark inside a string begins no comment
+    blank = re.sub(r'"(?:[^"\\]|\\.)*"', lambda match: " " * len(match.group(0)), line)
+    at = blank.find(start)
+    return (line, "") if at < 0 else (line[:at], line[at:])
 
 
 def lines_of(path, kind):
@@ -82,9 +80,12 @@ def lines_of(path, kind):
 
 def found_in(path, shown, every):
     kind = os.path.splitext(path)[1]
+    here = [rule for rule in every if rule[1].search(shown)]
+    allowed = [pattern for scope, _, pattern, _ in here if scope == "allow"]
+    some = re.compile("|".join(pattern.pattern for scope, _, pattern, _ in here if scope != "allow"), re.I)
     for number, code, comment in lines_of(path, kind):
-        here = [rule for rule in every if rule[1].search(shown)]
-        allowed = [pattern for scope, _, pattern, _ in here if scope == "allow"]
+        if not some.search(code + comment):
+            continue
         text = comment
         for pattern in allowed:
             text = pattern.sub(" ", text)
