@@ -37,7 +37,7 @@ def readelf_units(path):
 
 
 def published(objects):
-    """The names of the objects, each with its ascending CU vector elements (`.debug_gnu_pubnames`, GDB manual)."""
+    """The names of the objects, each with its ascending CU vector (DWARF 4, 7.19, with a byte of flags in each entry)."""
     names, unit = {}, 0
     for elf in objects:
         units = len(unit_lengths(elf.section(b".debug_info")))
