@@ -35,8 +35,11 @@ class Elf:
 
     def __init__(self, path):
         self.path = path
-        with open(path, "rb") as file:
-            self.data = file.read()
+        try:
+            with open(path, "rb") as file:
+                self.data = file.read()
+        except OSError as error:
+            sys.exit(f"{path}: {error.strerror}")
         if self.data[:6] != b"\x7fELF\x02\x01":
             sys.exit(f"{path} is no little endian ELFCLASS64 file")
         self.machine, = struct.unpack_from("<H", self.data, 18)
