@@ -1,4 +1,4 @@
--- A number at a place: it depends on its own bytes alone, and is what the other spellings of code and std give.
+-- A number at an offset: it depends on its own bytes alone, and is what the other spellings of code and std give.
 use Rattle.std.proofs.Common.{◌≡◌, ℕ, zero, suc, ◌+◌, ◌-◌, ◌*◌, ◌^◌, ◌<◌, ◌≤◌, List, take, drop, refl, ap, ◌∙◌, arith}
 use Rattle.std.specs.Prelude.{slice_index, slice_range}
 use Rattle.std.specs.Int.{w16, w32, from_le_bytes}

@@ -23,7 +23,7 @@ no_names c file none =
     rw nothing (either (name_table_index c file == 0))
 
 -- where no bytes hold names, no name can be read
-pub string_in_table : (table : Option (List ℕ)) (place : ℕ) → string_at (unwrap_or table []) place ≡ option_and_then (λ names. string_at names place) table
+pub string_in_table : (table : Option (List ℕ)) (at : ℕ) → string_at (unwrap_or table []) at ≡ option_and_then (λ names. string_at names at) table
 unfolding string_at
-string_in_table None place = rw drop-nil refl
-string_in_table (Some names) place = refl
+string_in_table None at = rw drop-nil refl
+string_in_table (Some names) at = refl

@@ -11,8 +11,8 @@ pub fn first_outside(len: usize, spans: &[Span]) -> Option<usize>
     ensures first { result ≡ position (λ span. not (is_inside len span)) spans.now }
     ensures none { result ≡ None → AreInside len spans.now }
 {
-    let place = spans
+    let index = spans
         .iter()
         .position(|span| !(span.start <= span.stop && span.stop <= len));
-    place
+    index
 }
