@@ -2,8 +2,8 @@
 """Writes the bytes of a section out of a report: `examples/index_section.py [index|index8|sframe] <REPORT >BYTES`.
 
 REPORT is what `derive tables` prints. The line `index LENGTH` is followed by the section in hexadecimal, 32 bytes a line; so is
-`sframe LENGTH`. `index8` writes the index as version 8, which gdb 7.7 to 14 read: version 9 adds the shortcut table and its word in
-the header, and nothing else differs.
+`sframe LENGTH`. `index8` writes the index as version 8, which gdb before 15 reads: version 9 adds the shortcut table and its offset
+in the header, and nothing else differs.
 """
 
 import struct
