@@ -1,6 +1,6 @@
-//! Decoding of lists in CREL, the compact form of relocations with addends: a header in LEB128 with the
-//! count, and records that say what changes from one to the next. What stands behind the last record does not
-//! count. Contracts see the decoder as its count and the items that it has still to give.
+//! Decoder of relocation lists in CREL, the compact form of RELA (LLVM; section type 0x40000014): a header in
+//! ULEB128 with the count, and records that state what changes from one to the next. Bytes after the last
+//! record are ignored. Contracts see the decoder as its count and the items that it still yields.
 
 ghost use Rattle.std.specs.Prelude.{◌≡◌};
 ghost use Rattle.elf_format.specs.Cursor.{Returns};
@@ -11,8 +11,8 @@ use elf_format::{Crel, CrelError};
 use elf_words::ByteCursor;
 use std::marker::Model;
 
-/// The records of a list in CREL, decoded one by one. A record that does not decode is given as its refusal,
-/// and is the last item.
+/// The records of a list in CREL, decoded one by one. A malformed record yields its error, which is the last
+/// item.
 #[derive(Clone, Drop)]
 pub struct CrelIterator<'a> {
     bytes: &'a [u8],
@@ -35,8 +35,9 @@ impl<'a> Model for CrelIterator<'a> {
 }
 
 impl<'a> CrelIterator<'a> {
-    /// Reads the header. `TooLong` where its number in LEB128 has more than 64 bits, else `Truncated` where
-    /// the bytes end first. The records are read by `next`.
+    /// Reads the header of a list, which begins at the first byte. Returns `TooLong` where its number in
+    /// ULEB128 needs more than 64 bits, `Truncated` where the bytes end inside it. The records are decoded by
+    /// `next`.
     #[tactic(auto, unfolding(elf_format::specs::Crel::listing))]
     pub fn parse(bytes: &'a [u8]) -> Result<CrelIterator<'a>, CrelError>
         ensures { Returns (λ x. x) result (listing bytes.now) }
@@ -58,7 +59,8 @@ impl<'a> CrelIterator<'a> {
         })
     }
 
-    /// The header's count of records, also after steps. The list may end sooner.
+    /// Returns the count of records that the header states, from 0 to 2^61 - 1. Steps do not change it. The
+    /// list yields fewer items where a record is malformed.
     pub fn len(&self) -> u64
         ensures { result ≡ self.now.count }
     {
@@ -76,6 +78,9 @@ impl Iterator for CrelIterator<'_> {
 
     ghost remaining = { item_count (λ x. x.items) };
 
+    /// Returns the next record with its offset shifted, or `Some(Err(..))` where it is malformed: `Truncated`
+    /// where the bytes end inside it, `TooLong` where a number in LEB128 needs more than 64 bits. After an
+    /// error and after the last record it returns None.
     fn next(&mut self) -> Option<Result<Crel, CrelError>> {
         if self.left == 0 {
             return None;

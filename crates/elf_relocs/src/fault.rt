@@ -1,14 +1,14 @@
-//! Why the relocations of a list are not given.
+//! Why a list's relocations are not returned: the list is malformed CREL, or an allocation failed.
 
 use elf_format::CrelError;
 use std::alloc::{AllocError, AllocFailed};
 
-/// Why the relocations of a list are not given.
+/// Why a list's relocations are not returned.
 #[derive(Clone, Copy, Debug, PartialEq, Eq)]
 pub enum CrelFault {
-    /// The list is in CREL, and does not decode.
+    /// The list is in CREL and malformed: `Truncated` or `TooLong`.
     Crel(CrelError),
-    /// There is no memory for them.
+    /// An allocation failed.
     NoMemory,
 }
 

@@ -1,6 +1,7 @@
-//! The relocations of a section (gABI, Relocation), as records of one size or in CREL, the compact form of
-//! them: views that decode a record where it is asked for, a decoder and an encoder of CREL, and sequences of
-//! relocations in either form. All is generic over the class.
+//! Relocations of a section (System V gABI, Relocation): RELA records, or CREL, their compact form with
+//! section type 0x40000014, as LLVM defines it. A view decodes a RELA record at an index; a decoder and an
+//! encoder handle CREL; a sequence holds the decoded relocations of either form. All is generic over the
+//! class.
 #![tactic(auto)]
 
 mod crel;
@@ -27,6 +28,3 @@ pub use rela::RelaView;
 pub use rela_sequence::RelaSequence;
 pub use relocation::{ElfCrel, ElfRela, Relocation};
 pub use sequence::RelocationSequence;
-
-#[cfg(test)]
-mod tests;

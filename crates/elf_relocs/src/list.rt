@@ -1,8 +1,10 @@
-//! The relocations of a section, in whichever form it has them (gABI, Relocation; CREL).
+//! A section's list of relocations in either form, not yet decoded (gABI, Relocation; CREL as LLVM defines it).
+//! Contracts see a list as the count that it states and its items, of which an error is the last.
 
-ghost use Rattle.std.specs.Prelude.{◌≡◌, Ok, MatchResult};
-ghost use Rattle.elf_relocs.specs.Fault.{FaultOf};
-ghost use Rattle.elf_relocs.specs.Lists.{count_of, relocations_of, sequence_of};
+ghost use Rattle.std.specs.Prelude.{◌≡◌, Ok, IfOk, MatchResult};
+ghost use Rattle.elf_relocs.specs.Fault.{IsCrelFault};
+ghost use Rattle.elf_format.specs.Crel.{all_ok};
+ghost use Rattle.elf_relocs.specs.Lists.{listing_of_list, form_of_list, relocations_of, form_of_sequence};
 
 use crate::crel::CrelIterator;
 use crate::fault::CrelFault;
@@ -11,19 +13,20 @@ use crate::sequence::RelocationSequence;
 use elf_words::ElfClass;
 use std::alloc::Global;
 
-/// The relocations of a section, not yet decoded.
+/// A section's list of relocations, not yet decoded.
 #[derive(Clone, Drop)]
 pub enum RelocationList<'a, C: ElfClass> {
-    /// Records of one size.
+    /// RELA records.
     Rela(RelaView<'a, C>),
     /// A list in CREL.
     Crel(CrelIterator<'a>),
 }
 
 impl<'a, C: ElfClass> RelocationList<'a, C> {
-    /// How many relocations the list says that it has: a list in CREL may end sooner.
+    /// Returns the number of relocations that the list states. A list in CREL yields fewer where a record is
+    /// malformed.
     pub fn num_relocations(&self) -> u64
-        ensures { result ≡ count_of self.now }
+        ensures { result ≡ (listing_of_list self.now).count }
     {
         match self {
             RelocationList::Rela(view) => view.len() as u64,
@@ -31,10 +34,11 @@ impl<'a, C: ElfClass> RelocationList<'a, C> {
         }
     }
 
-    /// The relocations as a sequence. `Crel` where the list is in CREL and does not decode, with its refusal;
-    /// `NoMemory` where there is no memory for them.
+    /// Returns the relocations as a sequence of the same form. The error is `Crel` with the list's error where
+    /// the list is malformed CREL, and `NoMemory` where an allocation fails. RELA records take no memory.
     pub fn to_sequence(self, alloc: Global) -> Result<RelocationSequence<'a, C>, CrelFault>
-        ensures { MatchResult result (λ s. relocations_of self.entry ≡ Ok (sequence_of C.class s)) (λ e. FaultOf e (relocations_of self.entry)) }
+        ensures relocations { MatchResult result (λ s. all_ok (listing_of_list self.entry).items ≡ Ok (relocations_of C.class s)) (λ e. IsCrelFault e (all_ok (listing_of_list self.entry).items)) }
+        ensures form { IfOk result (λ s. form_of_sequence s ≡ form_of_list self.entry) }
     {
         match self {
             RelocationList::Rela(view) => Ok(RelocationSequence::Rela(view.into_sequence())),

@@ -1,4 +1,4 @@
-//! A relocation of either form of list.
+//! A relocation of either form (gABI, Relocation; CREL as LLVM defines it).
 
 ghost use Rattle.std.specs.Prelude.{◌≡◌, option_map};
 ghost use Rattle.elf_format.specs.Rela.{symbol_of};
@@ -6,12 +6,12 @@ ghost use Rattle.elf_format.specs.Rela.{symbol_of};
 use crate::relocation::{ElfCrel, ElfRela, Relocation};
 use elf_words::{ElfClass, SymbolIndex};
 
-/// A relocation of either form of list.
+/// A relocation, by the form of the list that it comes from.
 #[derive(Clone, Copy)]
 pub enum Rel<C: ElfClass> {
-    /// Of a list of records.
+    /// A RELA record.
     Rela(ElfRela<C>),
-    /// Of a list in CREL.
+    /// A record of a list in CREL.
     Crel(ElfCrel<C>),
 }
 

@@ -1,5 +1,5 @@
-//! Lists of relocations that are records of one size (gABI, Relocation): a view of some bytes that are
-//! whole records, which decodes the record at an index where it is asked for.
+//! View of bytes that are whole RELA records (gABI, Relocation). It borrows the bytes and decodes the record at
+//! an index. Contracts see it as the list of its relocations.
 
 ghost use Rattle.std.specs.Prelude.{◌≡◌, length, option_map, slice_get};
 ghost use Rattle.elf_format.specs.Rela.{rela_list, rela_entries};
@@ -9,7 +9,7 @@ use crate::relocation::ElfRela;
 use elf_words::{ElfClass, Record};
 use std::marker::Model;
 
-/// The relocations of some bytes that are whole records.
+/// The relocations of bytes that are whole RELA records.
 #[derive(Clone, Drop)]
 pub struct RelaView<'a, C: ElfClass> {
     sequence: RelaSequence<'a, C>,
@@ -26,7 +26,8 @@ impl<'a, C: ElfClass> Model for RelaView<'a, C> {
 }
 
 impl<'a, C: ElfClass> RelaView<'a, C> {
-    /// The relocations of some bytes, or None exactly where the bytes are no whole records.
+    /// Views bytes as RELA records: 24 bytes each in a 64-bit file, 12 in a 32-bit one. Returns None exactly
+    /// where the number of bytes is no multiple of that size.
     #[tactic(auto, unfolding(elf_format::specs::Rela::rela_list))]
     pub fn new(bytes: &'a [u8]) -> Option<RelaView<'a, C>>
         ensures { result ≡ rela_list C.class bytes.now }
@@ -39,21 +40,21 @@ impl<'a, C: ElfClass> RelaView<'a, C> {
         })
     }
 
-    /// How many relocations there are.
+    /// Returns the number of relocations.
     pub fn len(&self) -> usize
         ensures { result ≡ length self.now }
     {
         self.sequence.len()
     }
 
-    /// The relocation at an index from 0, or None from the count on.
+    /// Returns the relocation at an index, or None where the index is not below the count.
     pub fn get(&self, index: usize) -> Option<ElfRela<C>>
         ensures { option_map (λ x. x.values) result ≡ slice_get self.now index }
     {
         self.sequence.get(index)
     }
 
-    /// The same relocations as a sequence, of which parts can be taken.
+    /// Converts the view into a sequence of the same relocations.
     pub(crate) fn into_sequence(self) -> RelaSequence<'a, C>
         ensures { rela_entries C.class result.bytes.now ≡ self.entry }
     {

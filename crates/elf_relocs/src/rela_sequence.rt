@@ -1,4 +1,4 @@
-//! Relocations that are records one after another, and parts of them.
+//! Sequence of RELA records (gABI, Relocation), of which parts can be taken. It borrows the records' bytes.
 
 ghost use Rattle.std.specs.Prelude.{◌≡◌, ◌≤◌, ◌<◌, ◌*◌, ◌-◌, ◌/◌, length, option_map, slice_get, slice_range, take, drop};
 ghost use Rattle.elf_format.specs.Rela.{rela_entries};
@@ -7,16 +7,16 @@ use crate::relocation::ElfRela;
 use elf_words::{ElfClass, Record, Records, Span};
 use std::marker::PhantomData;
 
-/// Relocations that are records, one after another.
+/// RELA records, one after another.
 #[derive(Clone, Copy)]
 pub struct RelaSequence<'a, C: ElfClass> {
-    /// The records as the file holds them.
+    /// The records' bytes as they stand in the file. An incomplete record at the end does not count.
     pub bytes: &'a [u8],
     class: PhantomData<C>,
 }
 
 impl<'a, C: ElfClass> RelaSequence<'a, C> {
-    /// The whole records of some bytes.
+    /// Makes the sequence of the whole records of some bytes.
     pub(crate) fn new(bytes: &'a [u8]) -> Self
         ensures { result.bytes.now ≡ bytes.now }
     {
@@ -26,14 +26,14 @@ impl<'a, C: ElfClass> RelaSequence<'a, C> {
         }
     }
 
-    /// How many relocations there are.
+    /// Returns the number of relocations.
     pub fn len(&self) -> usize
         ensures { result ≡ length (rela_entries C.class self.now.bytes.now) }
     {
         Records::<C::Rela>::whole(self.bytes).len()
     }
 
-    /// The relocation at an index from 0, or None from the count on.
+    /// Returns the relocation at an index, or None where the index is not below the count.
     pub fn get(&self, index: usize) -> Option<ElfRela<C>>
         ensures { option_map (λ x. x.values) result ≡ slice_get (rela_entries C.class self.now.bytes.now) index }
     {
@@ -41,7 +41,8 @@ impl<'a, C: ElfClass> RelaSequence<'a, C> {
         Some(ElfRela::new(records.get(index)?))
     }
 
-    /// The relocations of a span, which has to lie in the sequence.
+    /// Returns the relocations of a span of indexes, start included and stop excluded. Requires a span within
+    /// the sequence.
     pub fn subsequence(&self, span: Span) -> RelaSequence<'a, C>
         requires order { span.start ≤ span.stop }
         requires within { span.stop ≤ length (rela_entries C.class self.now.bytes.now) }
@@ -51,7 +52,7 @@ impl<'a, C: ElfClass> RelaSequence<'a, C> {
     }
 }
 
-/// The bytes of a span of records of a size.
+/// Returns the bytes of a span of records, each of `size` bytes.
 #[tactic(auto, using(crate::proofs::Spans::span_fits))]
 fn bytes_of_span(bytes: &[u8], size: usize, span: Span) -> &[u8]
     requires some { 0 < size }

@@ -1,5 +1,5 @@
-//! A relocation, whatever form its list has (gABI, Relocation; CREL). It is kept as its values: offset,
-//! symbol, kind and addend.
+//! A relocation of either form (gABI, Relocation: `r_offset`, `r_info`, `r_addend`; CREL as LLVM defines it). It is
+//! kept as its values: offset, symbol index, relocation type and addend.
 
 ghost use Rattle.std.specs.Prelude.{◌≡◌, option_map};
 ghost use Rattle.elf_format.specs.declared.crel.Crel.{Crel};
@@ -10,29 +10,30 @@ use elf_format::Crel;
 use elf_words::{ElfClass, RelaFields, SymbolIndex};
 use std::marker::PhantomData;
 
-/// A relocation, by its values.
+/// A relocation's values.
 pub trait Relocation {
     // the values of a relocation
     ghost relocation: { Self → Crel };
 
-    /// The symbol that the relocation is about, or None for symbol 0.
+    /// Returns the index of the relocation's symbol, or None for symbol 0, which is no symbol.
     fn symbol(&self) -> Option<SymbolIndex>
         ensures { option_map (λ s. s.0) result ≡ symbol_of (relocation self.now).symbol };
 
-    /// The kind: a number of the machine.
+    /// Returns the relocation type (`r_type`), whose meaning depends on the machine.
     fn raw_type(&self) -> u32
         ensures { result ≡ (relocation self.now).kind };
 
-    /// Where the relocation applies: in an object, bytes from the start of its section.
+    /// Returns where the relocation applies (`r_offset`): in a relocatable object, the offset in bytes from the
+    /// start of the section.
     fn offset(&self) -> u64
         ensures { result ≡ (relocation self.now).offset };
 
-    /// What is added to the symbol's value.
+    /// Returns what is added to the symbol's value (`r_addend`).
     fn addend(&self) -> i64
         ensures { result ≡ (relocation self.now).addend };
 }
 
-/// The place of a symbol, where symbol 0 is none.
+/// Returns a symbol's index, or None for symbol 0.
 fn index_of_symbol(symbol: u32) -> Option<SymbolIndex>
     ensures { option_map (λ s. s.0) result ≡ symbol_of symbol }
 {
@@ -62,16 +63,16 @@ impl Relocation for Crel {
     }
 }
 
-/// A relocation of a list in CREL.
+/// A relocation of a list in CREL, decoded.
 #[derive(Clone, Copy)]
 pub struct ElfCrel<C: ElfClass> {
-    /// What the relocation says.
+    /// Offset, symbol index (0 for none), relocation type and addend.
     pub values: Crel,
     class: PhantomData<C>,
 }
 
 impl<C: ElfClass> ElfCrel<C> {
-    /// The relocation that a record of a list in CREL is.
+    /// Makes a relocation with the values of a decoded record.
     pub fn new(entry: Crel) -> ElfCrel<C>
         ensures { result.values ≡ entry }
     {
@@ -81,7 +82,7 @@ impl<C: ElfClass> ElfCrel<C> {
         }
     }
 
-    /// The record, whose fields have their types' ranges.
+    /// Returns the values, which contracts then know to fit their types.
     pub(crate) fn entry(&self) -> Crel
         ensures value { result ≡ self.now.values }
         ensures fits { IsCrel result }
@@ -116,16 +117,16 @@ impl<C: ElfClass> Relocation for ElfCrel<C> {
     }
 }
 
-/// A relocation of a list of records.
+/// A relocation of a RELA record, decoded.
 #[derive(Clone, Copy)]
 pub struct ElfRela<C: ElfClass> {
-    /// What the relocation says.
+    /// Offset, symbol index (0 for none), relocation type and addend.
     pub values: Crel,
     class: PhantomData<C>,
 }
 
 impl<C: ElfClass> ElfRela<C> {
-    /// The relocation that a record is.
+    /// Decodes a RELA record.
     #[tactic(auto, unfolding(elf_format::specs::Rela::rela_values))]
     pub fn new(entry: C::Rela) -> ElfRela<C>
         ensures { result.values ≡ rela_values C.class (C.Rela.contents entry) }

@@ -1,7 +1,8 @@
-//! Decoded relocations of a section, in whichever form it has them, and parts of them.
+//! Relocations of a section in order, in either form, and parts of them (gABI, Relocation; CREL as LLVM defines
+//! it). Contracts see a sequence as its relocations and its form.
 
 ghost use Rattle.std.specs.Prelude.{◌≡◌, ◌≤◌, length, IfOk, slice_range, map};
-ghost use Rattle.elf_relocs.specs.Lists.{sequence_of};
+ghost use Rattle.elf_relocs.specs.Lists.{formed, relocations_of, form_of_sequence};
 
 use crate::rel_iter::RelIter;
 use crate::rela_sequence::RelaSequence;
@@ -12,16 +13,16 @@ use std::alloc::{AllocError, Global};
 /// The relocations of a section, in order.
 #[derive(Drop)]
 pub enum RelocationSequence<'a, C: ElfClass> {
-    /// Records, decoded where they are asked for.
+    /// RELA records, decoded at an index.
     Rela(RelaSequence<'a, C>),
-    /// The relocations of a list in CREL.
+    /// The decoded relocations of a list in CREL.
     Crel(Vec<ElfCrel<C>>),
 }
 
 impl<'a, C: ElfClass> RelocationSequence<'a, C> {
-    /// How many relocations there are.
+    /// Returns the number of relocations.
     pub fn num_relocations(&self) -> usize
-        ensures { result ≡ length (sequence_of C.class self.now) }
+        ensures { result ≡ length (relocations_of C.class self.now) }
     {
         match self {
             RelocationSequence::Rela(sequence) => sequence.len(),
@@ -29,9 +30,10 @@ impl<'a, C: ElfClass> RelocationSequence<'a, C> {
         }
     }
 
-    /// The relocations from the first on.
+    /// Iterates over the relocations from index 0 on: each is a `Rel::Rela` where the sequence is of RELA records,
+    /// and a `Rel::Crel` where it is of CREL.
     pub fn rel_iter(&self) -> RelIter<'_, C>
-        ensures { result ≡ sequence_of C.class self.now }
+        ensures { result ≡ map (formed (form_of_sequence self.now)) (relocations_of C.class self.now) }
     {
         match self {
             RelocationSequence::Rela(sequence) => return RelIter::of_records(sequence.bytes),
@@ -39,15 +41,17 @@ impl<'a, C: ElfClass> RelocationSequence<'a, C> {
         }
     }
 
-    /// The relocations of a span, which has to lie in the sequence. It is refused only for want of memory.
+    /// Returns the relocations of a span of indexes, start included and stop excluded, in the same form. Requires
+    /// a span within the sequence. `AllocError` comes only where an allocation fails; RELA records take none.
     pub fn subsequence(
         &self,
         alloc: Global,
         span: Span,
     ) -> Result<RelocationSequence<'a, C>, AllocError>
         requires order { span.start ≤ span.stop }
-        requires within { span.stop ≤ length (sequence_of C.class self.now) }
-        ensures { IfOk result (λ part. sequence_of C.class part ≡ slice_range (sequence_of C.class self.now) span.start span.stop) }
+        requires within { span.stop ≤ length (relocations_of C.class self.now) }
+        ensures form { IfOk result (λ part. form_of_sequence part ≡ form_of_sequence self.now) }
+        ensures relocations { IfOk result (λ part. relocations_of C.class part ≡ slice_range (relocations_of C.class self.now) span.start span.stop) }
     {
         match self {
             RelocationSequence::Rela(sequence) => {
@@ -60,7 +64,7 @@ impl<'a, C: ElfClass> RelocationSequence<'a, C> {
     }
 }
 
-/// The relocations of a span of a list.
+/// Copies the relocations of a span of a list.
 #[tactic(auto, using(crate::proofs::Spans::map_range))]
 fn part_of_list<C: ElfClass>(
     alloc: Global,

@@ -1,4 +1,4 @@
--- What a call that answers a symbol's section gives.
+-- The section that a symbol is defined in, as a result.
 use Rattle.std.specs.Prelude.{◌≡◌, Option, Some, None, Result, Ok, Err}
 use Rattle.elf_format.specs.declared.error.ElfError.{ElfError}
 use Rattle.elf_format.specs.declared.error.ElfError.TheVariants.{SymbolIndex}

@@ -1,4 +1,5 @@
-//! Section headers with their indexes (gABI, Sections).
+//! Section headers with their indexes (gABI, Sections). Contracts see the iterator as the pairs that it still
+//! yields.
 
 ghost use Rattle.std.specs.Prelude.{◌≡◌, ◌<◌, ◌^◌, length};
 ghost use Rattle.std.specs.List.{enumerate_from};
@@ -7,7 +8,7 @@ ghost use Rattle.std.specs.Iterator.{YieldsFirstBy, item_count};
 use elf_words::{ElfClass, Record, Records, SectionHeaderFields, SectionIndex};
 use std::marker::Model;
 
-/// Section headers from the first on, each with its index.
+/// Section headers in the order of the table, each with its index.
 #[derive(Drop)]
 pub struct SectionEnum<'a, C: ElfClass> {
     index: usize,
@@ -26,7 +27,7 @@ impl<'a, C: ElfClass> Model for SectionEnum<'a, C> {
 }
 
 impl<'a, C: ElfClass> SectionEnum<'a, C> {
-    /// These headers, counted from 0.
+    /// Iterates over headers, with indexes from 0.
     pub(crate) fn new(headers: Records<'a, C::SectionHeader>) -> Self
         requires { length headers < 2 ^ 64 }
         ensures { result ≡ enumerate_from 0 headers.entry }
@@ -42,6 +43,7 @@ impl<'a, C: ElfClass> Iterator for SectionEnum<'a, C> {
 
     ghost remaining = { item_count (λ s. s) };
 
+    /// Returns the next section header with its index, or None after the last.
     fn next(&mut self) -> Option<(SectionIndex, C::SectionHeader)> {
         let header = self.headers.next()?;
         let index = SectionIndex(self.index);

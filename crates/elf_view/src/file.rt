@@ -1,6 +1,6 @@
-//! A file whose bytes keep the rules on its header, machine, sections, symbols and versions, and the views
-//! of it (gABI, ELF Header, Sections and Symbol Table). Contracts see a file as its bytes and whether it was
-//! read as a dynamic one.
+//! A well-formed ELF file and the views of it (gABI, ELF Header, Sections, Symbol Table, Relocation). Its bytes
+//! keep the rules on header, machine, section headers, symbol tables and versions. Contracts see a file as its
+//! bytes and whether it was parsed as a dynamic one.
 
 ghost use Rattle.std.specs.Prelude.{◌≡◌, ℕ, true, MatchResult, None, Some, IfOk, IfErr, IfSome, length, ◌*◌, ◌<◌, ◌≤◌, ◌^◌, slice_get, option_map, option_copied, option_and_then};
 ghost use Rattle.std.specs.List.{enumerate_from};
@@ -12,9 +12,9 @@ ghost use Rattle.elf_format.specs.Section.{file_header, sections, section_bytes,
 ghost use Rattle.elf_format.specs.Symbol.{symbols, section_of_symbol};
 ghost use Rattle.elf_format.specs.Fault.{fault};
 ghost use Rattle.elf_format.specs.Cursor.{Returns};
-ghost use Rattle.elf_relocs.specs.Lists.{count_of, relocations_of};
+ghost use Rattle.elf_relocs.specs.Lists.{listing_of_list};
 ghost use Rattle.elf_view.specs.SymbolSection.{IsSymbolSection};
-ghost use Rattle.elf_view.specs.Relocation.{has_targets, relocation_section, entry_of, listed_by};
+ghost use Rattle.elf_view.specs.Relocation.{has_targets, relocation_section, relocation_entry, listed_by};
 ghost use Rattle.elf_view.specs.RelocFault.{IsRelocFault};
 ghost use Rattle.elf_view.specs.SectionData.{plain_bytes, data_fault};
 ghost use Rattle.elf_format.specs.declared.error.ElfError.TheVariants.{SectionTable, SectionData, SymbolIndex as MissingSymbol};
@@ -27,9 +27,9 @@ use crate::relocation_list::{list_of_section, no_relocations};
 use crate::relocation_sections::RelocationSections;
 use crate::section::{bytes_of_section, is_string_at, string_at};
 use crate::section_table::{read_section_headers, read_section_names};
-use crate::symbol::are_symbols_sound;
+use crate::symbol::are_symbols_well_formed;
 use crate::symbol_table::{find_symbol_table, read_section_indexes, read_symbols};
-use crate::version::are_versions_sound;
+use crate::version::are_versions_well_formed;
 use elf_format::{Architecture, ElfError};
 use elf_relocs::RelocationList;
 use elf_words::{
@@ -39,10 +39,10 @@ use elf_words::{
 use std::alloc::Global;
 use std::marker::Model;
 
-/// The headers of a file's sections, from the first on.
+/// Iterator over a file's section headers, from index 0 on.
 pub type SectionIter<'a, C> = Records<'a, <C as ElfClass>::SectionHeader>;
 
-/// A file of a class whose bytes keep every rule.
+/// A well-formed file of a class.
 #[derive(Drop)]
 pub struct File<'a, C: ElfClass> {
     bytes: &'a [u8],
@@ -65,8 +65,9 @@ impl<'a, C: ElfClass> Model for File<'a, C> {
 }
 
 impl<'a, C: ElfClass> File<'a, C> {
-    /// The file that the bytes make, read as a dynamic file or not. It is refused for the first rule that
-    /// the bytes break: `Header`, `Machine`, `SectionTable`, `SymbolTable`, `VersionTable`, in this order.
+    /// Parses bytes as a file of the class `C`. Of a dynamic file the symbols are those of SHT_DYNSYM, else those
+    /// of SHT_SYMTAB. The error is that of the first rule that the bytes break, in this order: `Header`,
+    /// `Machine`, `SectionTable`, `SymbolTable`, `VersionTable`. No memory is taken.
     #[tactic(auto, unfolding(elf_format::specs::Fault::fault, elf_format::specs::Fault::has_machine))]
     pub fn parse_bytes(bytes: &'a [u8], is_dynamic: bool) -> Result<Self, ElfError>
         ensures fault { result_err result ≡ fault C.class is_dynamic bytes.now }
@@ -78,10 +79,10 @@ impl<'a, C: ElfClass> File<'a, C> {
         let names = read_section_names::<C>(bytes, &header, &headers).ok_or(
             ElfError::SectionTable,
         )?;
-        if !are_symbols_sound::<C>(bytes, is_dynamic, &headers) {
+        if !are_symbols_well_formed::<C>(bytes, is_dynamic, &headers) {
             return Err(ElfError::SymbolTable);
         }
-        if !are_versions_sound::<C>(bytes, &headers) {
+        if !are_versions_well_formed::<C>(bytes, &headers) {
             return Err(ElfError::VersionTable);
         }
         let symbols = read_symbols::<C>(bytes, is_dynamic, &headers);
@@ -97,35 +98,35 @@ impl<'a, C: ElfClass> File<'a, C> {
         })
     }
 
-    /// All bytes of the file.
+    /// Returns all bytes of the file.
     pub fn bytes(&self) -> &'a [u8]
         ensures { result.now ≡ self.now.bytes }
     {
         self.bytes
     }
 
-    /// Whether the file was read as a dynamic one, so that its symbols are those of its dynamic linking.
+    /// Returns whether the file was parsed as a dynamic one.
     pub fn is_dynamic(&self) -> bool
         ensures { result ≡ self.now.is_dynamic }
     {
         self.is_dynamic
     }
 
-    /// The machine whose code the file holds.
+    /// Returns the machine that the file is for (`e_machine`).
     pub fn arch(&self) -> Architecture
         ensures { architecture_of (get (e_machine C.class) (file_header C.class self.now.bytes)) ≡ Some result }
     {
         self.architecture
     }
 
-    /// How many sections there are, with the null section at index 0.
+    /// Returns the number of sections, the null section at index 0 included.
     pub fn num_sections(&self) -> usize
         ensures { result ≡ length (sections C.class self.now.bytes) }
     {
         self.headers.len()
     }
 
-    /// The headers of all sections, from index 0 on.
+    /// Iterates over the section headers, from index 0 on.
     pub fn section_iter(&self) -> SectionIter<'a, C>
         ensures sections { result ≡ sections C.class self.now.bytes }
         ensures bound { length result < 2 ^ 64 }
@@ -133,8 +134,8 @@ impl<'a, C: ElfClass> File<'a, C> {
         self.headers.iter()
     }
 
-    /// The headers of all sections, each with its index, from index 0 on. They lie in the file, and each has
-    /// at least 40 bytes there.
+    /// Iterates over the section headers with their indexes, from index 0 on. Each header takes at least 40 bytes
+    /// of the file, which bounds their number.
     #[tactic(auto, using(crate::proofs::SectionsFit::sections_fit))]
     pub fn enumerate_sections(&self) -> SectionEnum<'a, C>
         ensures sections { result ≡ enumerate_from 0 (sections C.class self.now.bytes) }
@@ -143,7 +144,8 @@ impl<'a, C: ElfClass> File<'a, C> {
         SectionEnum::new(self.headers.iter())
     }
 
-    /// The header of the section at an index, or `SectionTable` exactly from the count on.
+    /// Returns the section header at an index. The error is `SectionTable`, exactly where the index is not below
+    /// the count of sections.
     pub fn section(&self, index: SectionIndex) -> Result<C::SectionHeader, ElfError>
         ensures found { option_map C.SectionHeader.contents (result_ok result) ≡ slice_get (sections C.class self.now.bytes) index.0 }
         ensures error { IfErr result (λ e. e ≡ SectionTable) }
@@ -151,8 +153,8 @@ impl<'a, C: ElfClass> File<'a, C> {
         self.headers.get(index.0).ok_or(ElfError::SectionTable)
     }
 
-    /// A section's bytes as they lie in the file: none for a section that takes no room there or has the
-    /// size 0. It is refused as `SectionData` exactly where they leave the file.
+    /// Returns a section's bytes as they stand in the file. A section of type NOBITS or of size 0 has none. The
+    /// error is `SectionData`, exactly where the bytes are out of the file's range.
     pub fn raw_section_data(&self, section: &C::SectionHeader) -> Result<&'a [u8], ElfError>
         ensures found { option_copied (result_ok result) ≡ section_bytes C.class self.now.bytes (C.SectionHeader.contents section.now) }
         ensures error { IfErr result (λ e. e ≡ SectionData) }
@@ -160,8 +162,8 @@ impl<'a, C: ElfClass> File<'a, C> {
         bytes_of_section(self.bytes, section).ok_or(ElfError::SectionData)
     }
 
-    /// A section's bytes, where they are not compressed. It is refused as `SectionData` exactly where they
-    /// leave the file, else as `Compressed` exactly where the section's flag says so.
+    /// Returns a section's bytes where they are not compressed. The error is `SectionData` exactly where the bytes
+    /// are out of the file's range, else `Compressed` exactly where `sh_flags` has SHF_COMPRESSED.
     pub fn section_data(&self, section: &C::SectionHeader) -> Result<&'a [u8], ElfError>
         ensures data { option_copied (result_ok result) ≡ plain_bytes C.class self.now.bytes (C.SectionHeader.contents section.now) }
         ensures fault { result_err result ≡ data_fault C.class self.now.bytes (C.SectionHeader.contents section.now) }
@@ -173,8 +175,8 @@ impl<'a, C: ElfClass> File<'a, C> {
         Ok(bytes)
     }
 
-    /// The name of the section at an index. It is refused as `SectionTable` exactly where there is no such
-    /// section, or no name that can be read.
+    /// Returns the name of the section at an index, without its zero byte. The error is `SectionTable`, exactly
+    /// where there is no such section or its name is not in the string table of section names.
     #[tactic(auto, using(elf_format::proofs::SectionLemmas::string_in_table), unfolding(elf_format::specs::Section::section_name))]
     pub fn section_name(&self, index: SectionIndex) -> Result<&'a [u8], ElfError>
         ensures found { option_copied (result_ok result) ≡ option_and_then (section_name C.class self.now.bytes) (slice_get (sections C.class self.now.bytes) index.0) }
@@ -184,7 +186,7 @@ impl<'a, C: ElfClass> File<'a, C> {
         string_at(self.names, header.sh_name() as usize).ok_or(ElfError::SectionTable)
     }
 
-    /// Whether a section has a name that can be read, and it is this one.
+    /// Returns whether a section has a readable name and it equals `name`.
     #[tactic(auto, using(elf_format::proofs::SectionLemmas::string_in_table), unfolding(elf_format::specs::Section::section_name))]
     fn is_named(&self, header: &C::SectionHeader, name: &[u8]) -> bool
         ensures { result ≡ is_name name.now (section_name C.class self.now.bytes (C.SectionHeader.contents header.now)) }
@@ -192,8 +194,8 @@ impl<'a, C: ElfClass> File<'a, C> {
         is_string_at(self.names, header.sh_name() as usize, name)
     }
 
-    /// Whether there is a section at an index, and its name can be read and is this one. The bytes of its name
-    /// are compared no farther than this name goes, however long it is.
+    /// Returns whether there is a section at an index whose name is readable and equals `name`. At most
+    /// `name.len() + 1` bytes of the string table are read, however long the section's name is.
     pub fn has_name(&self, index: SectionIndex, name: &[u8]) -> bool
         ensures { result ≡ is_name name.now (option_and_then (section_name C.class self.now.bytes) (slice_get (sections C.class self.now.bytes) index.0)) }
     {
@@ -203,7 +205,8 @@ impl<'a, C: ElfClass> File<'a, C> {
         }
     }
 
-    /// The first section whose name can be read and is this one, with its index.
+    /// Returns the first section whose name is readable and equals `name`, with its index, or None where there is
+    /// none.
     #[tactic(auto, using(elf_format::proofs::SearchLemmas::position_is_from, elf_format::proofs::SearchLemmas::rest_after, elf_format::proofs::SearchLemmas::item_at_front), unfolding(elf_format::specs::Section::section_of_name))]
     pub fn section_by_name(&self, name: &str) -> Option<(SectionIndex, C::SectionHeader)>
         ensures index { option_map (λ found. found.0.0) result ≡ section_of_name C.class self.now.bytes name.now }
@@ -217,14 +220,15 @@ impl<'a, C: ElfClass> File<'a, C> {
         None
     }
 
-    /// How many symbols there are, with the null symbol at index 0.
+    /// Returns the number of symbols, the null symbol at index 0 included.
     pub fn num_symbols(&self) -> usize
         ensures { result ≡ length (symbols C.class self.now.is_dynamic self.now.bytes) }
     {
         self.symbols.len()
     }
 
-    /// The symbol at an index, or `SymbolIndex` exactly from the count on.
+    /// Returns the symbol at an index. The error is `SymbolIndex`, exactly where the index is not below the count
+    /// of symbols.
     pub fn symbol(&self, index: SymbolIndex) -> Result<C::Sym, ElfError>
         ensures found { option_map C.Sym.contents (result_ok result) ≡ slice_get (symbols C.class self.now.is_dynamic self.now.bytes) index.0 }
         ensures error { IfErr result (λ e. e ≡ MissingSymbol) }
@@ -232,8 +236,9 @@ impl<'a, C: ElfClass> File<'a, C> {
         self.symbols.get(index.0).ok_or(ElfError::SymbolIndex)
     }
 
-    /// The section that a symbol with its index stands in, if any. It is refused as `SymbolIndex` exactly
-    /// where the section's index does not fit the symbol, and no table has it.
+    /// Returns the index of the section that a symbol is defined in, or None for an undefined, absolute or common
+    /// symbol. Where `st_shndx` is SHN_XINDEX, the table of section indexes has the section's index at the symbol's
+    /// `index`. The error is `SymbolIndex`, exactly where that entry is missing.
     #[tactic(auto, unfolding(elf_format::specs::Symbol::section_of_symbol))]
     pub fn symbol_section(
         &self,
@@ -256,13 +261,13 @@ impl<'a, C: ElfClass> File<'a, C> {
         Ok(Some(SectionIndex(section)))
     }
 
-    /// Which section holds the relocations of which: sections of the types RELA, REL and CREL that are linked
-    /// to the symbols, by the section that their info names. Without symbols there is none. It is refused as
-    /// `RelocationTable` exactly where the info of such a section names no section, and as `NoMemory` where
-    /// there is no memory.
+    /// Maps each section to the first section of type RELA, REL or CREL that is linked to the symbol table and
+    /// whose `sh_info` is its index. A file without a symbol table has none. The error is
+    /// `Elf(RelocationTable)`, exactly where the `sh_info` of such a section is not below the count of sections,
+    /// or `NoMemory` where an allocation fails.
     #[tactic(auto, unfolding(crate::specs::Relocation::relocation_section, crate::specs::Relocation::has_targets))]
     pub fn parse_relocations(&self, alloc: Global) -> Result<RelocationSections, RelocError>
-        ensures { MatchResult result (λ found. (has_targets C.class self.now.is_dynamic self.now.bytes ≡ true) × ((target : ℕ) → entry_of found target ≡ relocation_section C.class self.now.is_dynamic self.now.bytes target)) (IsRelocFault (has_targets C.class self.now.is_dynamic self.now.bytes)) }
+        ensures { MatchResult result (λ found. (has_targets C.class self.now.is_dynamic self.now.bytes ≡ true) × ((target : ℕ) → relocation_entry found target ≡ relocation_section C.class self.now.is_dynamic self.now.bytes target)) (IsRelocFault (has_targets C.class self.now.is_dynamic self.now.bytes)) }
     {
         let Some((table, _)) = find_symbol_table::<C>(self.bytes, self.is_dynamic, &self.headers)
         else {
@@ -271,16 +276,17 @@ impl<'a, C: ElfClass> File<'a, C> {
         RelocationSections::gather(alloc, self.bytes, &self.headers, table)
     }
 
-    /// The relocations of the section at an index, as `sections` says which section holds them: none where it
-    /// names none, and where that section is neither of type RELA nor CREL. It is refused as `RelocationTable`
-    /// where the file has no such section, where its bytes are no whole records or its header in CREL does not
-    /// decode, and as `SectionData` where its bytes leave the file.
+    /// Returns the list of relocations of the section at an index, from the section that holds them by `sections`.
+    /// The list is empty where there is none, or its type is neither RELA nor CREL. The error is `SectionData`
+    /// where that section's bytes are out of the file's range, and `RelocationTable` where the file has no such
+    /// section, its bytes are no whole RELA records, or its CREL header is malformed. Malformed CREL records are
+    /// errors of the list, after the records before them.
     pub fn relocations(
         &self,
         index: SectionIndex,
         sections: &RelocationSections,
     ) -> Result<RelocationList<'a, C>, ElfError>
-        ensures { Returns (λ l. (count_of l, relocations_of l)) result (listed_by C.class self.now.bytes (entry_of sections.now index.0)) }
+        ensures { Returns listing_of_list result (listed_by C.class self.now.bytes (relocation_entry sections.now index.0)) }
     {
         let Some(holder) = sections.get(index.0) else {
             return no_relocations::<C>();

@@ -1,4 +1,5 @@
-//! The rule on a file's first bytes (gABI, ELF Header and ELF Identification).
+//! The rule on a file's header (gABI, ELF Header and ELF Identification): a whole header of the class that
+//! begins with the ELF magic, the class, little-endian data and version 1.
 
 ghost use Rattle.std.specs.Prelude.{◌≡◌, true, false, MatchOption};
 ghost use Rattle.elf_format.specs.Section.{file_header};
@@ -6,7 +7,7 @@ ghost use Rattle.elf_format.specs.Fault.{has_header, identification};
 
 use elf_words::{ElfClass, FileHeaderFields, Record};
 
-/// The header of a file that begins with a whole one of the class.
+/// Returns the file header, or None where the bytes are shorter than one or its identification is another.
 #[tactic(auto, unfolding(elf_format::specs::Fault::has_header))]
 pub fn read_header<C: ElfClass>(bytes: &[u8]) -> Option<C::FileHeader>
     ensures { MatchOption result (has_header C.class bytes.now ≡ false) (λ header. (has_header C.class bytes.now ≡ true) × (C.FileHeader.contents header ≡ file_header C.class bytes.now)) }

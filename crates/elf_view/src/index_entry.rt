@@ -1,4 +1,5 @@
-//! The section index of a symbol that does not fit its record (gABI, Symbol Table, SHN_XINDEX).
+//! Entries of a section of type SHT_SYMTAB_SHNDX: the section index of a symbol whose `st_shndx` is SHN_XINDEX
+//! (gABI, Symbol Table).
 
 ghost use Rattle.std.specs.Prelude.{◌≡◌};
 ghost use Rattle.std.proofs.Common.{lit<};
@@ -6,7 +7,7 @@ ghost use Rattle.elf_format.specs.Bytes.{le};
 
 use elf_words::{Record, read_u32};
 
-/// A section index of four bytes.
+/// A section index in four bytes.
 #[derive(Clone, Copy)]
 pub struct IndexEntry {
     pub bytes: [u8; 4],
@@ -36,7 +37,7 @@ impl Record for IndexEntry {
 }
 
 impl IndexEntry {
-    /// The index, 0 for none.
+    /// Returns the section index, 0 for none.
     pub fn index(&self) -> usize
         ensures { result ≡ le self.now.bytes 0 4 }
     {

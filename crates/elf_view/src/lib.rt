@@ -1,6 +1,6 @@
-//! Views of an ELF file's bytes (System V gABI): `File` is a file whose bytes keep every rule that its
-//! readers rely on, and answers its sections, their names and bytes, and its symbols. Nothing is copied:
-//! a view borrows the file's bytes.
+//! Views of an ELF file's bytes (System V gABI). `File` is a well-formed file: it returns its section headers,
+//! section names and bytes, its symbols with their sections, and the relocations of a section. A view borrows
+//! the file's bytes and copies none. Little-endian files of both classes are read, by one generic code.
 #![tactic(auto)]
 
 mod enumerate;
@@ -21,8 +21,3 @@ pub use enumerate::SectionEnum;
 pub use file::{File, SectionIter};
 pub use reloc_error::RelocError;
 pub use relocation_sections::RelocationSections;
-
-#[cfg(test)]
-mod relocation_tests;
-#[cfg(test)]
-mod tests;

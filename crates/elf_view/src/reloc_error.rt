@@ -1,14 +1,15 @@
-//! Why the sections that hold a file's relocations are not given.
+//! Why the table of relocation sections is not returned: the file's relocation sections are malformed, or an
+//! allocation failed.
 
 use elf_format::ElfError;
 use std::alloc::{AllocError, AllocFailed};
 
-/// Why the sections that hold a file's relocations are not given.
+/// Why the table of relocation sections is not returned.
 #[derive(Clone, Copy, Debug, PartialEq, Eq)]
 pub enum RelocError {
-    /// The file is refused.
+    /// A rule on ELF files is broken: `RelocationTable`.
     Elf(ElfError),
-    /// There is no memory for them.
+    /// An allocation failed.
     NoMemory,
 }
 

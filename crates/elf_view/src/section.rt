@@ -1,4 +1,4 @@
-//! A section's bytes, and strings in them (gABI, Sections and String Table).
+//! Bytes of a section, and strings of a string table (gABI, Sections and String Table).
 
 ghost use Rattle.std.specs.Prelude.{◌≡◌, ◌==◌, ◌<◌, position, length, take, IfSome, option_copied};
 ghost use Rattle.elf_format.specs.Bytes;
@@ -6,7 +6,8 @@ ghost use Rattle.elf_format.specs.Section.{section_bytes, is_name};
 
 use elf_words::{Record, SHT_NOBITS, SectionHeaderFields, first_zero};
 
-/// A section's bytes, where the file holds them: none for a section that takes no room in it.
+/// Returns a section's bytes, or None where they are out of the file's range. A section of type NOBITS or of
+/// size 0 has no bytes, whatever its offset.
 #[tactic(auto, unfolding(elf_format::specs::Section::section_bytes))]
 pub fn bytes_of_section<'a, H: SectionHeaderFields>(bytes: &'a [u8], header: &H) -> Option<&'a [u8]>
     ensures { option_copied result ≡ section_bytes H.class bytes.now (H.contents header.now) }
@@ -19,24 +20,24 @@ pub fn bytes_of_section<'a, H: SectionHeaderFields>(bytes: &'a [u8], header: &H)
     bytes.get(start..stop)
 }
 
-/// The bytes from a place up to the first zero byte.
+/// Returns the string at an offset, without its zero byte, or None where no zero byte follows.
 #[tactic(auto, unfolding(elf_format::specs::Bytes::string_at))]
-pub fn string_at(strings: &[u8], place: usize) -> Option<&[u8]>
-    ensures { option_copied result ≡ Bytes.string_at strings.now place }
+pub fn string_at(strings: &[u8], offset: usize) -> Option<&[u8]>
+    ensures { option_copied result ≡ Bytes.string_at strings.now offset }
 {
-    let tail = strings.get(place..)?;
+    let tail = strings.get(offset..)?;
     let length = first_zero(tail)?;
     Some(&tail[..length])
 }
 
-/// At most so many bytes from the front.
-fn front_of(bytes: &[u8], count: usize) -> &[u8]
+/// Returns the first `count` bytes, or all where there are fewer.
+fn prefix_of(bytes: &[u8], count: usize) -> &[u8]
     ensures { result.now ≡ take count bytes.now }
 {
     &bytes[..bytes.len().min(count)]
 }
 
-/// Whether a string was found, and it is this one.
+/// Returns whether a string was found and equals `wanted`.
 fn is_found(found: Option<&[u8]>, wanted: &[u8]) -> bool
     ensures { result ≡ is_name wanted.now (option_copied found.entry) }
 {
@@ -46,13 +47,14 @@ fn is_found(found: Option<&[u8]>, wanted: &[u8]) -> bool
     }
 }
 
-/// Whether the string at a place is this one. No more bytes are looked at than it has, and one more.
+/// Returns whether the string at an offset equals `wanted`. At most `wanted.len() + 1` bytes are read, so a long
+/// string costs no more.
 #[tactic(auto, using(crate::proofs::NameLemmas::front_tells), unfolding(elf_format::specs::Bytes::string_at))]
-pub fn is_string_at(strings: &[u8], place: usize, wanted: &[u8]) -> bool
-    ensures { result ≡ is_name wanted.now (Bytes.string_at strings.now place) }
+pub fn is_string_at(strings: &[u8], offset: usize, wanted: &[u8]) -> bool
+    ensures { result ≡ is_name wanted.now (Bytes.string_at strings.now offset) }
 {
-    match strings.get(place..) {
-        Some(tail) => is_found(string_at(front_of(tail, wanted.len() + 1), 0), wanted),
+    match strings.get(offset..) {
+        Some(tail) => is_found(string_at(prefix_of(tail, wanted.len() + 1), 0), wanted),
         None => false,
     }
 }

@@ -1,5 +1,5 @@
-//! The table of section headers, and the section that holds their names (gABI, Sections; ELF Header,
-//! e_shnum and e_shstrndx).
+//! The section header table, and the string table of section names (gABI, Sections; ELF Header: `e_shoff`,
+//! `e_shnum`, `e_shstrndx`, and their escapes in the first section header).
 
 ghost use Rattle.std.specs.Prelude.{◌≡◌, ◌<◌, true, false, option_copied, MatchOption, Some, [], unwrap_or};
 ghost use Rattle.elf_format.specs.Section.{file_header, section_count, sections, name_table, name_table_index};
@@ -8,7 +8,8 @@ ghost use Rattle.elf_format.specs.Fault.{has_section_headers, has_section_names}
 use crate::section::bytes_of_section;
 use elf_words::{ElfClass, FileHeaderFields, Record, Records, SHN_XINDEX, SectionHeaderFields};
 
-/// The section headers, where the file holds the table that its header names.
+/// Returns the section headers, none where `e_shoff` is 0. Returns None where `e_shentsize` is not the class's
+/// size, or the table is out of the file's range.
 #[tactic(auto, unfolding(elf_format::specs::Fault::has_section_headers, elf_format::specs::Section::section_count, elf_format::specs::Section::sections))]
 pub fn read_section_headers<'a, C: ElfClass>(
     bytes: &'a [u8],
@@ -35,7 +36,7 @@ pub fn read_section_headers<'a, C: ElfClass>(
     Some(Records::new(table, count))
 }
 
-/// The index of the section that holds the names of sections.
+/// Returns the index of the section that holds the section names.
 #[tactic(auto, using(elf_format::proofs::RecordLemmas::first_record), unfolding(elf_format::specs::Section::name_table_index, elf_format::specs::Section::sections))]
 fn find_name_table<'a, C: ElfClass>(
     bytes: &'a [u8],
@@ -54,7 +55,7 @@ fn find_name_table<'a, C: ElfClass>(
     })
 }
 
-/// The bytes of the section that holds the names of some sections.
+/// Returns the bytes of the section that holds the section names: none where its index is 0.
 #[tactic(auto, unfolding(elf_format::specs::Section::name_table))]
 fn read_name_table<'a, C: ElfClass>(
     bytes: &'a [u8],
@@ -74,7 +75,8 @@ fn read_name_table<'a, C: ElfClass>(
     bytes_of_section(bytes, &names)
 }
 
-/// The bytes that hold the names of sections: none where there are no sections.
+/// Returns the string table of section names: no bytes where there are no sections. Returns None where the
+/// section that should hold it does not exist, or its bytes are out of the file's range.
 #[tactic(auto, using(elf_format::proofs::SectionLemmas::length_sections, elf_format::proofs::SectionLemmas::no_names))]
 pub fn read_section_names<'a, C: ElfClass>(
     bytes: &'a [u8],

@@ -1,4 +1,4 @@
-//! The rule on sections that hold symbols, their strings or their section indexes (gABI, Symbol Table).
+//! The rule on symbol tables, their string tables and their tables of section indexes (gABI, Symbol Table).
 
 ghost use Rattle.std.specs.Prelude.{◌≡◌, ◌<◌, slice_get};
 ghost use Rattle.elf_format.specs.Section.{sections, section_bytes};
@@ -12,7 +12,7 @@ use elf_words::{
     SectionHeaderFields,
 };
 
-/// Whether a section's bytes are in the file, and are whole records of a size.
+/// Returns whether a section's bytes are within the file and are whole records of `size` bytes.
 pub fn holds_whole_records<H: SectionHeaderFields>(bytes: &[u8], header: &H, size: usize) -> bool
     requires { 0 < size }
     ensures { result ≡ holds_whole size (section_bytes H.class bytes.now (H.contents header.now)) }
@@ -23,7 +23,7 @@ pub fn holds_whole_records<H: SectionHeaderFields>(bytes: &[u8], header: &H, siz
     }
 }
 
-/// Whether a link names no strings, or a section of strings that are in the file.
+/// Returns whether a link is 0, or the index of a string table whose bytes are within the file.
 fn has_strings<'a, C: ElfClass>(
     bytes: &'a [u8],
     headers: &Records<'a, C::SectionHeader>,
@@ -42,15 +42,15 @@ fn has_strings<'a, C: ElfClass>(
     }
 }
 
-/// The type of section that holds a file's symbols.
+/// Returns the type of the section that holds the symbols: SHT_DYNSYM of a dynamic file, else SHT_SYMTAB.
 pub fn symbol_table_type(is_dynamic: bool) -> u32
     ensures { result ≡ Rattle.elf_format.specs.Symbol.symbol_table_type is_dynamic }
 {
     if is_dynamic { SHT_DYNSYM } else { SHT_SYMTAB }
 }
 
-/// Whether a section, if it holds symbols, has whole ones, and its strings.
-fn is_sound_symbol_table<'a, C: ElfClass>(
+/// Returns whether a section is no symbol table, or holds whole symbols and is linked to a string table.
+fn is_symbol_table_well_formed<'a, C: ElfClass>(
     bytes: &'a [u8],
     is_dynamic: bool,
     headers: &Records<'a, C::SectionHeader>,
@@ -64,8 +64,8 @@ fn is_sound_symbol_table<'a, C: ElfClass>(
             && has_strings::<C>(bytes, headers, header.sh_link())
 }
 
-/// Whether a section, if it holds the section indexes of symbols, has whole ones.
-fn is_sound_index_table<'a, C: ElfClass>(
+/// Returns whether a section is no table of section indexes of the symbols, or holds whole entries.
+fn is_index_table_well_formed<'a, C: ElfClass>(
     bytes: &'a [u8],
     is_dynamic: bool,
     headers: &Records<'a, C::SectionHeader>,
@@ -86,9 +86,9 @@ fn is_sound_index_table<'a, C: ElfClass>(
     }
 }
 
-/// Whether each section that holds symbols, or their section indexes, is as it should be.
+/// Returns whether each symbol table and each table of section indexes is well formed.
 #[tactic(auto, unfolding(elf_format::specs::Fault::has_symbols))]
-pub fn are_symbols_sound<'a, C: ElfClass>(
+pub fn are_symbols_well_formed<'a, C: ElfClass>(
     bytes: &'a [u8],
     is_dynamic: bool,
     headers: &Records<'a, C::SectionHeader>,
@@ -97,8 +97,8 @@ pub fn are_symbols_sound<'a, C: ElfClass>(
     ensures { result ≡ has_symbols C.class is_dynamic bytes.now }
 {
     for header in headers.iter() {
-        if !is_sound_symbol_table::<C>(bytes, is_dynamic, headers, &header)
-            || !is_sound_index_table::<C>(bytes, is_dynamic, headers, &header)
+        if !is_symbol_table_well_formed::<C>(bytes, is_dynamic, headers, &header)
+            || !is_index_table_well_formed::<C>(bytes, is_dynamic, headers, &header)
         {
             return false;
         }

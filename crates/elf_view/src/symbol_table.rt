@@ -1,4 +1,5 @@
-//! The symbols of a file, and their section indexes (gABI, Symbol Table): the last table of each counts.
+//! The symbol table of a file and its table of section indexes (gABI, Symbol Table). Where there are several of a
+//! type, the last one is used.
 
 ghost use Rattle.std.specs.Prelude.{◌≡◌, ◌==◌, ◌&&◌, option_map};
 ghost use Rattle.std.specs.List.{enumerate_from};
@@ -12,7 +13,7 @@ use crate::section::bytes_of_section;
 use crate::symbol::symbol_table_type;
 use elf_words::{ElfClass, Record, Records, SHT_SYMTAB_SHNDX, SectionHeaderFields};
 
-/// The last section of a type, with its index.
+/// Returns the last section of a type, with its index.
 #[tactic(auto, using(elf_format::proofs::SearchLemmas::or_none, elf_format::proofs::SearchLemmas::or_later))]
 fn last_of_type<'a, C: ElfClass>(
     headers: &Records<'a, C::SectionHeader>,
@@ -29,7 +30,7 @@ fn last_of_type<'a, C: ElfClass>(
     last
 }
 
-/// The last section of a type that is linked to another, with its index.
+/// Returns the last section of a type that is linked to the section at an index, with its own index.
 #[tactic(auto, using(elf_format::proofs::SearchLemmas::or_none, elf_format::proofs::SearchLemmas::or_later))]
 fn last_linked<'a, C: ElfClass>(
     headers: &Records<'a, C::SectionHeader>,
@@ -47,7 +48,7 @@ fn last_linked<'a, C: ElfClass>(
     last
 }
 
-/// The section that holds the symbols, with its index.
+/// Returns the section that holds the symbols, with its index.
 #[tactic(auto, unfolding(elf_format::specs::Symbol::symbol_table))]
 pub fn find_symbol_table<'a, C: ElfClass>(
     bytes: &'a [u8],
@@ -60,7 +61,7 @@ pub fn find_symbol_table<'a, C: ElfClass>(
     last_of_type::<C>(headers, symbol_table_type(is_dynamic))
 }
 
-/// The symbols.
+/// Returns the symbols, none without a symbol table.
 #[tactic(auto, unfolding(elf_format::specs::Symbol::symbols))]
 pub fn read_symbols<'a, C: ElfClass>(
     bytes: &'a [u8],
@@ -77,7 +78,7 @@ pub fn read_symbols<'a, C: ElfClass>(
     Records::whole(found)
 }
 
-/// The section that holds the section indexes of the symbols, with its index.
+/// Returns the section that holds the section indexes of the symbols, with its index.
 #[tactic(auto, unfolding(elf_format::specs::Symbol::index_table))]
 fn find_index_table<'a, C: ElfClass>(
     bytes: &'a [u8],
@@ -91,7 +92,7 @@ fn find_index_table<'a, C: ElfClass>(
     last_linked::<C>(headers, SHT_SYMTAB_SHNDX, table)
 }
 
-/// The section indexes of the symbols.
+/// Returns the section indexes of the symbols, none without a table of them.
 #[tactic(auto, unfolding(elf_format::specs::Symbol::section_indexes))]
 pub fn read_section_indexes<'a, C: ElfClass>(
     bytes: &'a [u8],

@@ -1,4 +1,4 @@
-//! The rule on sections that hold the versions of symbols (GNU symbol versioning).
+//! The rule on sections of symbol versions (GNU symbol versioning; LSB, Symbol Versioning).
 
 ghost use Rattle.std.specs.Prelude.{◌≡◌};
 ghost use Rattle.elf_format.specs.Section.{sections};
@@ -11,11 +11,12 @@ use elf_words::{
     ElfClass, Record, Records, SHT_GNU_VERDEF, SHT_GNU_VERNEED, SHT_GNU_VERSYM, SectionHeaderFields,
 };
 
-/// How many bytes a symbol's version index has.
+/// The size in bytes of a version index (Versym).
 const VERSYM_SIZE: usize = 2;
 
-/// Whether a section, if it holds versions, has its bytes in the file.
-fn is_sound_version_section<H: SectionHeaderFields>(bytes: &[u8], header: &H) -> bool
+/// Returns whether a section holds no versions, or its bytes are within the file, and whole where it holds version
+/// indexes.
+fn is_version_section_well_formed<H: SectionHeaderFields>(bytes: &[u8], header: &H) -> bool
     ensures { result ≡ is_well_formed_version_section H.class bytes.now (H.contents header.now) }
 {
     match header.sh_type() {
@@ -25,9 +26,9 @@ fn is_sound_version_section<H: SectionHeaderFields>(bytes: &[u8], header: &H) ->
     }
 }
 
-/// Whether each section that holds versions is as it should be.
+/// Returns whether each section of versions is well formed.
 #[tactic(auto, unfolding(elf_format::specs::Fault::has_versions))]
-pub fn are_versions_sound<'a, C: ElfClass>(
+pub fn are_versions_well_formed<'a, C: ElfClass>(
     bytes: &'a [u8],
     headers: &Records<'a, C::SectionHeader>,
 ) -> bool
@@ -35,7 +36,7 @@ pub fn are_versions_sound<'a, C: ElfClass>(
     ensures { result ≡ has_versions C.class bytes.now }
 {
     for header in headers.iter() {
-        if !is_sound_version_section(bytes, &header) {
+        if !is_version_section_well_formed(bytes, &header) {
             return false;
         }
     }

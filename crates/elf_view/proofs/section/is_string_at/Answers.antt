@@ -8,7 +8,7 @@ use Rattle.elf_view.proofs.section.is_string_at.Goals as goal
 pub returns-in-Some : goal.returns-in-Some
 returns-in-Some c =
     let wanted = c.args.wanted.now in
-    let tail_is : c.in-Some.tail.now ≡ drop c.args.place c.args.strings.now = c.in-Some.ensures.lookup.0.2 ∙ take_rest c.args.strings.now c.args.place in
+    let tail_is : c.in-Some.tail.now ≡ drop c.args.offset c.args.strings.now = c.in-Some.ensures.lookup.0.2 ∙ take_rest c.args.strings.now c.args.offset in
     c.is_found.ensures ∙ ap (is_name wanted) c.string_at.ensures
-    ∙ ap (λ (front : List ℕ). is_name wanted (bytes.string_at front 0)) (c.front_of.ensures ∙ ap (λ (tail : List ℕ). take (length wanted + 1) tail) tail_is)
-    ∙ front_tells wanted c.args.strings.now c.args.place
+    ∙ ap (λ (front : List ℕ). is_name wanted (bytes.string_at front 0)) (c.prefix_of.ensures ∙ ap (λ (tail : List ℕ). take (length wanted + 1) tail) tail_is)
+    ∙ front_tells wanted c.args.strings.now c.args.offset
