@@ -76,10 +76,10 @@ enough (c ∷ name) [] = refl
 enough [] (b ∷ bytes) = front (eqb b 0) b (name_in bytes)
 enough (c ∷ name) (b ∷ bytes) = byte_by_byte (eqb b 0) b c name (name_in bytes) (name_in (take (suc (length name)) bytes)) (enough name bytes)
 
--- the front of a string tells whether it is a name
-pub front_tells : (name strings : List ℕ) (place : ℕ) → is_name name (string_at (take (length name + 1) (drop place strings)) 0) ≡ is_name name (string_at strings place)
+-- a prefix of a string decides whether the string is a name
+pub prefix_decides : (name strings : List ℕ) (offset : ℕ) → is_name name (string_at (take (length name + 1) (drop offset strings)) 0) ≡ is_name name (string_at strings offset)
 unfolding string_in string_at
-front_tells name strings place =
-    let bytes = drop place strings in
+prefix_decides name strings offset =
+    let bytes = drop offset strings in
     let more : length name + 1 ≡ suc (length name) = omega arith in
     ap (λ n. is_name name (string_in (take n bytes))) more ∙ ap (is_name name) (names_are (take (suc (length name)) bytes)) ∙ sym (enough name bytes) ∙ ap (is_name name) (sym (names_are bytes))

@@ -49,7 +49,7 @@ fn is_found(found: Option<&[u8]>, wanted: &[u8]) -> bool
 
 /// Returns whether the string at an offset equals `wanted`. At most `wanted.len() + 1` bytes are read, so a long
 /// string costs no more.
-#[tactic(auto, using(crate::proofs::NameLemmas::front_tells), unfolding(elf_format::specs::Bytes::string_at))]
+#[tactic(auto, using(crate::proofs::NameLemmas::prefix_decides), unfolding(elf_format::specs::Bytes::string_at))]
 pub fn is_string_at(strings: &[u8], offset: usize, wanted: &[u8]) -> bool
     ensures { result ≡ is_name wanted.now (Bytes.string_at strings.now offset) }
 {

@@ -1,0 +1,8 @@
+//! Tests of the ELF crates (System V gABI) over their public calls, each a table of many cases. Expected values
+//! were worked out by hand, or come from a plain slow reading of the format that is the tests' own.
+#![tactic(auto)]
+
+#[cfg(test)]
+mod relocs;
+#[cfg(test)]
+mod view;
