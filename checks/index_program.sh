@@ -1,9 +1,10 @@
 #!/usr/bin/env bash
 # `examples/index_program.sh` on a program of four objects: functions in sections of their own, some of which the linker leaves out, a
 # function that two objects have, and code without debugging information. The index is compared with the program and the objects
-# (`checks/index_of_program.py`). readelf and gdb read it as version 8 where they do not read version 9. Skipped without the tools.
+# (`checks/index_of_program.py`), and with lld's where that is there. readelf and gdb read it as version 8. Skipped without the tools.
 set -u
 top=$(cd "$(dirname "$0")/.." && pwd) || exit 1
+. "$top/sample/derive.sh"
 for tool in g++ objcopy readelf python3; do
   command -v "$tool" >/dev/null || { echo "skipped: no $tool"; exit 0; }
 done
@@ -41,6 +42,14 @@ flags="-g -O1 -gz=none -ggnu-pubnames -ffunction-sections -fno-inline"
 gcc $flags -c main.c two.c && g++ $flags -c three.cc four.cc && g++ -Wl,--gc-sections -o program main.o two.o three.o four.o || exit 1
 bash "$top/examples/index_program.sh" program main.o two.o three.o four.o >said 2>&1 || { cat said; exit 1; }
 python3 "$top/checks/index_of_program.py" program.indexed main.o two.o three.o four.o || exit 1
+
+# lld's own index of the same objects has the same names and CU vectors
+if command -v ld.lld >/dev/null; then
+  : >empty
+  ld.lld -e 0 --unresolved-symbols=ignore-all --gdb-index -o linked main.o two.o three.o four.o || exit 1
+  said=$(derive tables x86_64 "$work/empty" "$work/main.o" "$work/two.o" "$work/three.o" "$work/four.o" | python3 "$top/bench/same_as_lld.py" linked) || exit 1
+  echo "right: $said"
+fi
 
 # what readelf and gdb say of it
 if grep -q 'Unsupported version 9' said; then
