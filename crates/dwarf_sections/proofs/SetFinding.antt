@@ -1,4 +1,4 @@
--- Reading sets of names, one behind another.
+-- Reading sets of names, one after another.
 use Rattle.std.proofs.Common.{◌≡◌, ◌≢◌, ℕ, zero, suc, ◌+◌, ◌*◌, ◌<◌, List, [], ◌∷◌, ◌++◌, length, None, refl, sym, ap, subst, ◌∙◌, arith, append_assoc}
 use Rattle.std.specs.Int.{w16, to_le_bytes}
 use Rattle.std.proofs.lemmas.List.{length-append}
@@ -9,7 +9,7 @@ use Rattle.gdb_index_format.proofs.SetLists.{same_front, length-number, same_num
 use Rattle.dwarf_sections.specs.declared.sets.SetHead.{SetHead}
 use Rattle.std.specs.List.{All}
 use Rattle.dwarf_sections.specs.Clean.{IsClean}
-use Rattle.dwarf_sections.specs.Sets.{body, BodyAt, NoSet, IsHead}
+use Rattle.dwarf_sections.specs.steps.SetParts.{body, BodyAt, NoSet, IsHead}
 
 body_then : (format : DwarfFormat) (u l : ℕ) (z x : List ℕ) → spelled format u l z x ≡ body format u l z ++ x
 body_then format u l z x = sym (

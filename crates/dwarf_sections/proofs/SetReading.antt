@@ -14,7 +14,8 @@ use Rattle.gdb_index_format.specs.Names.{Entry, width, limit, number, IsClosed, 
 use Rattle.gdb_index_format.proofs.SetLists.{length-number, same_number, zero_number, zero_limit, entries_after}
 use Rattle.dwarf_sections.specs.declared.set_error.SetError.{SetError}
 use Rattle.dwarf_sections.specs.declared.set_error.SetError.TheVariants.{BadSet, NoMemory}
-use Rattle.dwarf_sections.specs.Entries.{NoEntry, IsBad}
+use Rattle.dwarf_sections.specs.steps.EntryParts.{NoEntry}
+use Rattle.dwarf_sections.specs.Entries.{IsBad}
 
 abbrev zero_test : ℕ → Bool
 zero_test c = eqb c 0

@@ -1,4 +1,4 @@
--- Where there are units, no refusal has a cause but want of memory.
+-- Where there are units, no refusal has a cause but out of memory.
 use Rattle.std.proofs.Common.{ℕ, List, Result, Ok, Err, IfErr}
 use Rattle.gdb_index_format.specs.declared.unit.CuBoundary.{CuBoundary}
 use Rattle.gdb_index_format.specs.declared.unit.UnitFault.TheVariants as faults

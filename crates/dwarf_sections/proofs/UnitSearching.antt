@@ -1,5 +1,5 @@
--- Searching units by halving.
-use Rattle.std.proofs.Common.{◌≡◌, ℕ, zero, suc, ◌+◌, ◌-◌, ◌<◌, ◌≤◌, Bool, true, false, eqb, ltb, leb, List, length, get_or, Option, Some, None, Result, Ok, Err, refl, sym, ap, ◌∙◌, subst, arith, inl, inr}
+-- Searching units by binary search.
+use Rattle.std.proofs.Common.{◌≡◌, ℕ, zero, suc, ◌+◌, ◌-◌, ◌^◌, ◌<◌, ◌≤◌, Bool, true, false, eqb, ltb, leb, List, length, get_or, Option, Some, None, Result, Ok, Err, refl, sym, ap, ◌∙◌, subst, arith, inl, inr}
 use Rattle.std.specs.List.{position, position_or_len}
 use Rattle.std.specs.List.Sorted.{IsSearchInRange, IsBinarySearchResult, IsPartitionPoint, IsNonDecreasingBy}
 use Rattle.std.specs.Ordering.{nat_cmp, ordering_index}
@@ -37,9 +37,9 @@ passes us offset j some d = let found = position-Some (λ (u : CuBoundary). eqb 
 abbrev pub no_unit : CuBoundary
 no_unit = record { offset = 0; length = 0 }
 
--- units that ascend have one place at most for an offset
-one_place : (us : List CuBoundary) (offset i j : ℕ) → Ascend us → i < length us → j < length us → (get_or us i no_unit).offset ≡ offset → (get_or us j no_unit).offset ≡ offset → i ≡ j
-one_place us offset i j ascend p q here there =
+-- units that ascend have one index at most for an offset
+one_index : (us : List CuBoundary) (offset i j : ℕ) → Ascend us → i < length us → j < length us → (get_or us i no_unit).offset ≡ offset → (get_or us j no_unit).offset ≡ offset → i ≡ j
+one_index us offset i j ascend p q here there =
     elim (cases_lt i j) [
       | inl less ↦ absurd (omega (arith, ascend i j no_unit less q))
       | inr le ↦ elim (cases_lt j i) [
@@ -75,7 +75,7 @@ unit_searched us offset (Ok i) ascend bound equal = by (unit_at us offset) refl 
   by None is = absurd (fails_all us offset is i no_unit bound (ranked (get_or us i no_unit).offset offset Equal (sym (equal no_unit))))
   by (Some j) is =
       let there = passes us offset j is no_unit in
-      ap (λ k. Some k) (one_place us offset i j ascend bound there.0 (ranked (get_or us i no_unit).offset offset Equal (sym (equal no_unit))) there.1) ∙ sym is
+      ap (λ k. Some k) (one_index us offset i j ascend bound there.0 (ranked (get_or us i no_unit).offset offset Equal (sym (equal no_unit))) there.1) ∙ sym is
 unit_searched us offset (Err i) ascend bound parts = by (unit_at us offset) refl where
   by : (o : Option ℕ) → unit_at us offset ≡ o → None ≡ unit_at us offset
   by None is = sym is
@@ -84,7 +84,7 @@ unit_searched us offset (Err i) ascend bound parts = by (unit_at us offset) refl
       let around = parts (λ x y d le l. rises (get_or us x d).offset (get_or us y d).offset offset (offsets_rise us ascend x y d le l)) in
       absurd (elim (cases_lt j i) [
         | inl before ↦ omega (arith, there.1, ranked (get_or us j no_unit).offset offset Less (sym (around.0 j no_unit (omega arith) before)))
-        | inr behind ↦ omega (arith, there.1, ranked (get_or us j no_unit).offset offset Greater (sym (around.1 j no_unit behind there.0)))
+        | inr upper ↦ omega (arith, there.1, ranked (get_or us j no_unit).offset offset Greater (sym (around.1 j no_unit upper there.0)))
       ])
 
 -- ---- the unit that holds an offset
@@ -123,35 +123,39 @@ position_none us offset d fails =
     let is : position_or_len p us ≡ length us = position_or_len_is p us (length us) d (omega arith) fails (λ l. absurd (omega arith)) in
     sym (cond-false (ltb (position_or_len p us) (length us)) (Some (position_or_len p us)) None (false_from_ne_true _ (λ t. omega (arith, is, ltb-true _ _ t))))
 
--- units at or before the offset, then units behind it
-pub record Parted (us : List CuBoundary) (offset behind : ℕ) : Type 0 where
-  pub bound : behind ≤ length us
-  pub low : (k : ℕ) (d : CuBoundary) → k < behind → (get_or us k d).offset ≤ offset
-  pub high : (k : ℕ) (d : CuBoundary) → behind ≤ k → k < length us → offset < (get_or us k d).offset
+-- units at or before the offset, then units after it
+pub record Parted (us : List CuBoundary) (offset upper : ℕ) : Type 0 where
+  pub bound : upper ≤ length us
+  pub low : (k : ℕ) (d : CuBoundary) → k < upper → (get_or us k d).offset ≤ offset
+  pub high : (k : ℕ) (d : CuBoundary) → upper ≤ k → k < length us → offset < (get_or us k d).offset
 
-pub parted : (us : List CuBoundary) (offset behind : ℕ) → behind ≤ length us → IsPartitionPoint (λ u. leb u.offset offset ≡ true) (λ u. leb u.offset offset ≡ false) us behind → Parted us offset behind
-parted us offset behind bound parts = record {
+pub parted : (us : List CuBoundary) (offset upper : ℕ) → upper ≤ length us → IsPartitionPoint (λ u. leb u.offset offset ≡ true) (λ u. leb u.offset offset ≡ false) us upper → Parted us offset upper
+parted us offset upper bound parts = record {
   bound = bound;
   low = λ k d l. let t = parts.0 k d (omega arith) l in grind (arith, nat_tests);
   high = λ k d le l. let t = parts.1 k d le l in grind (arith, nat_tests);
 }
 
-pub none_before : (us : List CuBoundary) (offset behind : ℕ) → Parted us offset behind → behind ≡ 0 → None ≡ unit_holding us offset
-none_before us offset behind parts none = position_none us offset no_unit (λ j l. not_held offset (get_or us j no_unit) (λ low high. omega (arith, parts.high j no_unit (omega arith) l)))
+pub none_before : (us : List CuBoundary) (offset upper : ℕ) → Parted us offset upper → upper ≡ 0 → None ≡ unit_holding us offset
+none_before us offset upper parts none = position_none us offset no_unit (λ j l. not_held offset (get_or us j no_unit) (λ low high. omega (arith, parts.high j no_unit (omega arith) l)))
 
-pub last_holds : (us : List CuBoundary) (offset behind k : ℕ) → AreAdjacent us → Parted us offset behind → behind ≡ k + 1 → offset < (get_or us k no_unit).offset + (get_or us k no_unit).length → Some k ≡ unit_holding us offset
-last_holds us offset behind k adjacent parts is within =
+pub last_holds : (us : List CuBoundary) (offset upper k : ℕ) → AreAdjacent us → Parted us offset upper → upper ≡ k + 1 → offset < (get_or us k no_unit).offset + (get_or us k no_unit).length → Some k ≡ unit_holding us offset
+last_holds us offset upper k adjacent parts is within =
     let below : k < length us = omega (arith, parts.bound) in
     position_is us offset k no_unit below
     (λ j l. not_held offset (get_or us j no_unit) (λ low high. omega (arith, ends_before us adjacent j k no_unit l below, parts.low k no_unit (omega arith))))
     (held offset (get_or us k no_unit) (parts.low k no_unit (omega arith)) within)
 
-pub last_does_not_hold : (us : List CuBoundary) (offset behind k : ℕ) → AreAdjacent us → Parted us offset behind → behind ≡ k + 1 → (get_or us k no_unit).offset + (get_or us k no_unit).length ≤ offset → None ≡ unit_holding us offset
-last_does_not_hold us offset behind k adjacent parts is beyond =
-    position_none us offset no_unit (λ j l. not_held offset (get_or us j no_unit) (λ low high. elim (cases_lt j behind) [
+pub last_does_not_hold : (us : List CuBoundary) (offset upper k : ℕ) → AreAdjacent us → Parted us offset upper → upper ≡ k + 1 → (get_or us k no_unit).offset + (get_or us k no_unit).length ≤ offset → None ≡ unit_holding us offset
+last_does_not_hold us offset upper k adjacent parts is beyond =
+    position_none us offset no_unit (λ j l. not_held offset (get_or us j no_unit) (λ low high. elim (cases_lt j upper) [
       | inr after ↦ omega (arith, parts.high j no_unit after l)
       | inl before ↦ elim (cases_lt j k) [
         | inl less ↦ omega (arith, ends_before us adjacent j k no_unit less (omega (arith, parts.bound)), parts.low k no_unit (omega arith))
         | inr same ↦ let j_is : j ≡ k = omega arith in omega (arith, ap (λ n. (get_or us n no_unit).offset + (get_or us n no_unit).length) j_is)
       ]
     ]))
+
+-- no unit holds an offset that does not fit 64 bits
+pub none_holds : (us : List CuBoundary) (offset : ℕ) → AreAdjacent us → 2 ^ 64 ≤ offset → None ≡ unit_holding us offset
+none_holds us offset adjacent beyond = position_none us offset no_unit (λ j l. not_held offset (get_or us j no_unit) (λ low high. omega (arith, adjacent.fit j no_unit l)))

@@ -1,12 +1,9 @@
--- What a reader of sets of names finds at the front of bytes.
-use Rattle.std.specs.Prelude.{◌≡◌, ◌≢◌, ℕ, ◌<◌, List, ◌∷◌, ◌++◌, length, map, Option, Some, None, Result, Ok, Err}
-use Rattle.std.specs.List.{All}
+-- The entries of a set as a reader returns them, and what its refusal means.
+use Rattle.std.specs.Prelude.{ℕ, List, map, Result, Ok, Err}
 use denote.Ref.{Bor}
-use Rattle.gdb_index_format.specs.declared.dwarf_format.DwarfFormat.{DwarfFormat}
-use Rattle.gdb_index_format.specs.Names.{Entry, width, limit, number, IsClosed, IsEntry}
+use Rattle.gdb_index_format.specs.Names.{Entry}
 use Rattle.dwarf_sections.specs.declared.set_error.SetError.{SetError}
 use Rattle.dwarf_sections.specs.declared.set_error.SetError.TheVariants.{BadSet, NoMemory}
-use Rattle.dwarf_sections.specs.declared.entries.NameEntry.{NameEntry}
 
 abbrev pub entry_in : Bor (List ℕ) × ℕ → Entry
 entry_in e = record { name = e.0.now; flag = e.1 }
@@ -14,29 +11,7 @@ entry_in e = record { name = e.0.now; flag = e.1 }
 abbrev pub entries_in : List (Bor (List ℕ) × ℕ) → List Entry
 entries_in es = map entry_in es
 
-abbrev pub seen_entry : NameEntry → Entry
-seen_entry e = record { name = e.name.now; flag = e.flag }
-
--- a number and what follows it, where the bytes have so many
-abbrev pub NumberAt : DwarfFormat → List ℕ → Option (ℕ × Bor (List ℕ)) → Type 0
-NumberAt format bytes None = length bytes < width format
-NumberAt format bytes (Some p) = (p.0 < limit format) × (bytes ≡ number format p.0 ++ p.1.now)
-
--- what stands before the first zero byte and behind it, where there is one
-abbrev pub SplitsName : List ℕ → Option (Bor (List ℕ) × Bor (List ℕ)) → Type 0
-SplitsName bytes None = All (λ c. c ≢ 0) bytes
-SplitsName bytes (Some p) = All (λ c. c ≢ 0) p.0.now × (bytes ≡ p.0.now ++ 0 ∷ p.1.now)
-
-abbrev pub FoundEntry : DwarfFormat → List ℕ → Option NameEntry → Type 0
-FoundEntry format bytes None = IsClosed format bytes
-FoundEntry format bytes (Some e) = IsEntry format bytes (seen_entry e) e.rest.now
-
--- neither an entry nor the end of the entries
-pub record NoEntry (format : DwarfFormat) (bytes : List ℕ) : Type 0 where
-  pub not_closed : IsClosed format bytes → ⊥
-  pub no_entry : (e : Entry) (rest : List ℕ) → IsEntry format bytes e rest → ⊥
-
--- what BadSet says; want of memory says nothing
+-- what BadSet means; out of memory means nothing
 abbrev pub IsBad : {X : Type 0} → Result X SetError → Type 0 → Type 0
 IsBad (Ok x) P = Unit {0}
 IsBad (Err BadSet) P = P

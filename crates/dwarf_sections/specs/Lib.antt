@@ -3,3 +3,4 @@ pub mod Entries
 pub mod Sets
 pub mod Clean
 pub mod UnitSearch
+pub mod steps

@@ -1,17 +1,19 @@
-//! The entries of a set of names, one behind another (the layout of `.debug_gnu_pubnames`): an offset in the
-//! set's unit, a flag byte (GDB manual, "Index Section Format"), and the name with a zero byte behind it.
+//! The entries of a set of `.debug_gnu_pubnames` or `.debug_gnu_pubtypes`, one after another: an offset in the set's
+//! compilation unit (CU), a flag byte (GDB manual, "Index Section Format"), and the name with the zero byte that ends
+//! it. A zero offset closes the list (DWARF 4, 6.1.1).
 
 ghost use Rattle.std.specs.Prelude.{◌≡◌, ℕ, ◌+◌, ◌<◌, ◌≤◌, ◌==◌, List, length, IfOk};
 ghost use Rattle.std.specs.List.{position};
 ghost use Rattle.gdb_index_format.specs.Names.{Entry, IsEntries};
-ghost use Rattle.dwarf_sections.specs.Entries.{entries_in, FoundEntry, NoEntry, NumberAt, SplitsName, IsBad};
+ghost use Rattle.dwarf_sections.specs.Entries.{entries_in, IsBad};
+ghost use Rattle.dwarf_sections.specs.steps.EntryParts.{FoundEntry, NoEntry, NumberAt, SplitsName};
 
 use crate::set_error::SetError;
 use elf_words::first_zero;
 use gdb_index_format::DwarfFormat;
 use std::alloc::Global;
 
-/// An entry, and what follows it.
+/// An entry, and the bytes after it.
 #[derive(Clone, Copy, Debug)]
 pub(crate) struct NameEntry<'a> {
     name: &'a [u8],
@@ -19,7 +21,7 @@ pub(crate) struct NameEntry<'a> {
     rest: &'a [u8],
 }
 
-/// The number at the front, as wide as the format says, and what follows it.
+/// Returns the number at the front, as wide as the DWARF format has offsets, and the bytes after it.
 pub(crate) fn number_of(format: DwarfFormat, bytes: &[u8]) -> Option<(u64, &[u8])>
     ensures { NumberAt format bytes.now result }
 {
@@ -35,7 +37,7 @@ pub(crate) fn number_of(format: DwarfFormat, bytes: &[u8]) -> Option<(u64, &[u8]
     }
 }
 
-/// What stands before the first zero byte, and behind it.
+/// Returns the bytes before the first zero byte, and those after it.
 fn split_name(bytes: &[u8]) -> Option<(&[u8], &[u8])>
     ensures { SplitsName bytes.now result }
 {
@@ -45,7 +47,7 @@ fn split_name(bytes: &[u8]) -> Option<(&[u8], &[u8])>
     }
 }
 
-/// The entry at the front, or none where the entries are closed there.
+/// Returns the entry at the front, none where the list of entries is closed there.
 fn entry_of(format: DwarfFormat, bytes: &[u8]) -> Result<Option<NameEntry<'_>>, SetError>
     ensures found { IfOk result (FoundEntry format bytes.now) }
     ensures bad { IsBad result (NoEntry format bytes.now) }
@@ -72,7 +74,7 @@ fn entry_of(format: DwarfFormat, bytes: &[u8]) -> Result<Option<NameEntry<'_>>, 
     }))
 }
 
-/// The entries that the last part of a set spells, each a name and its flag byte.
+/// Returns the entries that the last part of a set holds, each a name and its flag byte.
 pub(crate) fn entries_of<'a>(
     alloc: Global,
     format: DwarfFormat,

@@ -1,13 +1,12 @@
-//! Reads what an index is made of: the units of `.debug_info` (DWARF 5, 7.4 and 7.5.1) and the sets of names of
-//! `.debug_gnu_pubnames` and `.debug_gnu_pubtypes`, and finds the unit of an offset. Bytes are read once, from
-//! front to back, and names stay slices of them.
+//! Reads the DWARF sections that an index is made of: the compilation units (CUs) of `.debug_info` (DWARF 5, 7.4 and
+//! 7.5.1), and the sets of `.debug_gnu_pubnames` and `.debug_gnu_pubtypes` (the layout of DWARF 4, 6.1.1). Bytes are
+//! read once, from the first to the last, and names stay slices of them. The unit of an offset is found by binary
+//! search.
 #![tactic(auto)]
 
 mod entries;
 mod set_error;
 mod sets;
-#[cfg(test)]
-mod tests;
 mod unit_search;
 mod units;
 

@@ -1,15 +1,15 @@
-//! Why a section of names is not read.
+//! Why a `.debug_gnu_pubnames` or `.debug_gnu_pubtypes` section is not read.
 
 use std::alloc::{AllocError, AllocFailed};
 use thiserror::Error;
 
-/// Why a section of names is not read.
+/// Why a `.debug_gnu_pubnames` or `.debug_gnu_pubtypes` section is not read.
 #[derive(Clone, Copy, Debug, PartialEq, Eq, Error)]
 pub enum SetError {
     /// The bytes are no list of sets.
-    #[error("the section is no list of sets of names")]
+    #[error("the section is no list of sets")]
     BadSet,
-    /// There is no memory.
+    /// Out of memory.
     #[error("out of memory")]
     NoMemory,
 }

@@ -1,29 +1,30 @@
-//! The sets of names of `.debug_gnu_pubnames` and `.debug_gnu_pubtypes`, one behind another (the layout of
-//! DWARF 4, 6.1.1, in the two formats of DWARF 5, 7.4): an initial length, version 2, the unit's offset and
-//! length, and the entries.
+//! The sets of `.debug_gnu_pubnames` and `.debug_gnu_pubtypes`, one after another (the layout of DWARF 4, 6.1.1, in
+//! the two formats of DWARF 5, 7.4): an initial length, version 2, the offset and the length of a compilation unit
+//! (CU), and the entries.
 
 ghost use Rattle.std.specs.Prelude.{◌≡◌, ℕ, ◌+◌, ◌<◌, ◌≤◌, List, length, IfOk};
 ghost use Rattle.std.specs.List.{All};
 ghost use Rattle.gdb_index_format.specs.Names.{NameSet, IsSetList};
 ghost use Rattle.dwarf_sections.specs.Entries.{IsBad};
 ghost use Rattle.dwarf_sections.specs.Clean.{IsClean};
-ghost use Rattle.dwarf_sections.specs.Sets.{sets_in, LengthAt, BodyAt, HeadAt, FoundSet, NoSet};
+ghost use Rattle.dwarf_sections.specs.Sets.{sets_in};
+ghost use Rattle.dwarf_sections.specs.steps.SetParts.{LengthAt, BodyAt, HeadAt, FoundSet, NoSet};
 
 use crate::entries::{entries_of, number_of};
 use crate::set_error::SetError;
 use gdb_index_format::DwarfFormat;
 use std::alloc::Global;
 
-/// The names of one unit.
+/// A set: the names that one unit publishes.
 #[derive(Debug, Drop)]
 pub struct PubnamesSet<'a> {
-    /// Where the unit begins, in bytes from the start of `.debug_info`.
+    /// The unit's offset, in bytes from the start of `.debug_info`.
     pub debug_info_offset: u64,
     /// Each name, without the zero byte that ends it, with its flag byte.
     pub entries: Vec<(&'a [u8], u8)>,
 }
 
-/// An initial length, and what follows it.
+/// An initial length, and the bytes after it.
 #[derive(Clone, Copy, Debug)]
 struct Length<'a> {
     format: DwarfFormat,
@@ -31,7 +32,7 @@ struct Length<'a> {
     rest: &'a [u8],
 }
 
-/// What stands before the entries of a set, where these are, and what follows the set.
+/// The fields before the entries of a set, the bytes of the entries, and the bytes after the set.
 #[derive(Clone, Copy, Debug)]
 struct SetHead<'a> {
     format: DwarfFormat,
@@ -40,14 +41,14 @@ struct SetHead<'a> {
     rest: &'a [u8],
 }
 
-/// A set, and what follows it.
+/// A set, and the bytes after it.
 #[derive(Debug, Drop)]
 struct SetAndRest<'a> {
     set: PubnamesSet<'a>,
     rest: &'a [u8],
 }
 
-/// The initial length at the front; 0xfffffff0 to 0xfffffffe are none.
+/// Returns the initial length at the front. The values 0xfffffff0 to 0xfffffffe are reserved (DWARF 5, 7.4), and none.
 fn length_of(bytes: &[u8]) -> Option<Length<'_>>
     ensures { LengthAt bytes.now result }
 {
@@ -70,7 +71,7 @@ fn length_of(bytes: &[u8]) -> Option<Length<'_>>
     })
 }
 
-/// The unit's offset and the entries' bytes, of what stands behind the initial length of a set.
+/// Returns the unit's offset and the entries' bytes, of the bytes after the initial length of a set.
 fn body_of(format: DwarfFormat, bytes: &[u8]) -> Option<(u64, &[u8])>
     ensures { BodyAt format bytes.now result }
 {
@@ -83,7 +84,7 @@ fn body_of(format: DwarfFormat, bytes: &[u8]) -> Option<(u64, &[u8])>
     Some((unit, last))
 }
 
-/// The head of the set at the front.
+/// Returns the fields before the entries of the set at the front.
 fn head_of(bytes: &[u8]) -> Option<SetHead<'_>>
     ensures { HeadAt bytes.now result }
 {
@@ -101,7 +102,7 @@ fn head_of(bytes: &[u8]) -> Option<SetHead<'_>>
     })
 }
 
-/// The set at the front, and what follows it.
+/// Returns the set at the front, and the bytes after it.
 fn set_of<'a>(alloc: Global, bytes: &'a [u8]) -> Result<SetAndRest<'a>, SetError>
     ensures found { IfOk result (FoundSet bytes.now) }
     ensures bad { IsBad result (NoSet bytes.now) }
@@ -119,10 +120,11 @@ fn set_of<'a>(alloc: Global, bytes: &'a [u8]) -> Result<SetAndRest<'a>, SetError
     })
 }
 
-/// The sets of a section of names, in order. A zero offset, or the set's end, closes the entries of a set; what
-/// stands behind a zero offset inside the set is skipped. No name has a zero byte.
+/// Returns the sets of `.debug_gnu_pubnames` or `.debug_gnu_pubtypes`, in order (the layout of DWARF 4, 6.1.1). A zero
+/// offset, or the set's end, closes the entries of a set; bytes between a zero offset and the set's end are skipped.
+/// No name has a zero byte.
 ///
-/// `BadSet` comes exactly where the bytes are no list of sets; `NoMemory` may come at any bytes.
+/// `BadSet` comes exactly where the bytes are no list of sets. `NoMemory` may come at any bytes.
 pub fn parse_pubnames_sets<'a>(
     alloc: Global,
     bytes: &'a [u8],

@@ -1,10 +1,11 @@
-//! The units of `.debug_info`, which follow one another from its first byte on (DWARF 5, 7.5.1): each begins
-//! with its initial length (7.4), and nothing else of it is read.
+//! The compilation units (CUs) of `.debug_info`, which follow one another from its first byte on (DWARF 5, 7.5.1).
+//! Each begins with its initial length (7.4), and nothing else of it is read.
 
 ghost use Rattle.std.specs.Prelude.{◌≡◌, ℕ, List, ◌+◌, ◌<◌, ◌≤◌, ◌^◌, length, IfOk, IfErr};
 ghost use Rattle.gdb_index_format.specs.declared.unit.CuBoundary.{CuBoundary as CuBoundary_spec};
 ghost use Rattle.gdb_index_format.specs.Units.{unit_length, IsUnitList};
-ghost use Rattle.dwarf_sections.specs.UnitCause.{IsUnitListCause, HasCauseAt, IsUnitMemory};
+ghost use Rattle.dwarf_sections.specs.UnitCause.{IsUnitListCause, IsUnitMemory};
+ghost use Rattle.dwarf_sections.specs.steps.CauseAt.{HasCauseAt};
 
 use elf_words::{read_u32, read_u64};
 use gdb_index_format::CuBoundary;
@@ -14,13 +15,13 @@ use thiserror::Error;
 /// Why the units of `.debug_info` are not read. Each offset is in bytes from the start of the section.
 #[derive(Clone, Copy, Debug, PartialEq, Eq, Error)]
 pub enum UnitError {
-    /// The length of the unit at this offset begins with 0xffffffff, and the eight bytes behind that are cut.
-    #[error("the length of the unit at {offset} is cut")]
+    /// The initial length of the unit at this offset begins with 0xffffffff, and the eight bytes after that are truncated.
+    #[error("the initial length of the unit at {offset} is truncated")]
     Truncated { offset: u64 },
-    /// The unit at this offset reaches beyond the bytes.
-    #[error("the unit at {offset} reaches beyond its section")]
+    /// The end of the unit at this offset is out of range: it lies after the end of the bytes.
+    #[error("the unit at {offset} ends after its section")]
     InvalidLength { offset: u64 },
-    /// There is no memory.
+    /// Out of memory.
     #[error("out of memory")]
     NoMemory,
 }
@@ -36,7 +37,7 @@ impl<T: Drop> From<AllocFailed<T>> for UnitError {
     }
 }
 
-/// How many bytes the unit at a place has, its initial length included, where all of them are there.
+/// Returns the length in bytes of the unit at an offset, its initial length included, where the bytes hold all of it.
 #[tactic(auto, unfolding(gdb_index_format::specs::Units::unit_length))]
 fn unit_length_at(bytes: &[u8], at: usize) -> Result<usize, UnitError>
     requires { at + 4 ≤ length bytes.now }
@@ -60,11 +61,11 @@ fn unit_length_at(bytes: &[u8], at: usize) -> Result<usize, UnitError>
     Ok(length as usize)
 }
 
-/// The units of `.debug_info`, in order, each with its offset and its length in bytes. They tile the bytes up to
-/// a rest of at most three, which is ignored.
+/// Returns the units of `.debug_info`, in order, each with its offset and its length in bytes (DWARF 5, 7.4 and
+/// 7.5.1). They tile the bytes up to a rest of at most three bytes, which is ignored.
 ///
-/// `Truncated` and `InvalidLength` tell the first place at which no unit begins and why; `NoMemory` may come at
-/// any bytes. The bytes have units exactly where neither of the first two has a cause (DWARF 5, 7.4 and 7.5.1).
+/// `Truncated` and `InvalidLength` have the first offset at which no unit begins, and come exactly where there is one.
+/// `NoMemory` may come at any bytes.
 pub fn parse_cu_boundaries(alloc: Global, bytes: &[u8]) -> Result<Vec<CuBoundary>, UnitError>
     ensures ok { IfOk result (λ units. IsUnitList bytes.now units.items) }
     ensures cause { IfErr result (IsUnitListCause bytes.now) }

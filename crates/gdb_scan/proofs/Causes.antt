@@ -45,7 +45,7 @@ not_in_units c object file us (TooManyUnits n) units cause = cause
 not_in_units c object file us (IndexTooLarge n) units cause = cause
 not_in_units c object file us NoMemory units cause = tt
 
--- the sections of a whole list hold sets, so the one at a place does
+-- the sections of a whole list hold sets, so each of them does
 sets_at : (c : Class) (file : List ℕ) (before : List (ℕ × List ℕ)) (s : ℕ × List ℕ) (after : List (ℕ × List ℕ)) (ss : List NameSet) → AreSetsOfSections c file (before ++ s ∷ after) ss → (ts : List NameSet) × AreSetsIn (section_bytes c file s.1) ts
 sets_at c file [] s after ss (front, rest, is, here, others) = (front, here)
 sets_at c file (b ∷ before) s after ss (front, rest, is, here, others) = sets_at c file before s after rest others
@@ -70,7 +70,7 @@ not_in_names c object file [] ss e units beside fails = absurd (apart (one_units
   apart same = cc same
 not_in_names c object file (u ∷ us) ss e units beside fails =
     let bad = fails.names in
-    let at = sets_at c file bad.before bad.section bad.after ss (subst (λ l. AreSetsOfSections c file l ss) bad.place beside) in
+    let at = sets_at c file bad.before bad.section bad.after ss (subst (λ l. AreSetsOfSections c file l ss) bad.listed beside) in
     not_in_section c object file bad.section e at.0 at.1 bad.cause
 
 pub excluded : (c : Class) (object : ℕ) (file : List ℕ) (o : Object) (e : GdbError) → IsObjectOf c file o → first_compressed c file ≡ None → IsScanCause c object file e → IsOnlyMemory e

@@ -1,4 +1,4 @@
--- The names sections of an object, one behind another.
+-- The pubnames sections of an object, one after another.
 use Rattle.std.proofs.Common.{◌≡◌, ℕ, Bool, true, false, List, [], ◌∷◌, ◌++◌, Some, refl, sym, ap, subst, ◌∙◌, append_assoc, arith}
 use Rattle.std.specs.List.{filter, enumerate_from}
 use Rattle.std.proofs.lemmas.Bool.{cond-true, cond-false}
@@ -16,8 +16,8 @@ use Rattle.gdb_scan.specs.declared.mark.Mark.{Mark}
 use Rattle.gdb_scan.specs.Cause.{IsSectionCause, IsNamesCause}
 use Rattle.gdb_scan.specs.Groups.{add_all}
 use Rattle.gdb_scan.specs.Marks.{marks_in, marks_of}
-use Rattle.gdb_scan.specs.Section.{PublishesSection}
-use Rattle.gdb_scan.specs.Gathered.{Gathers}
+use Rattle.gdb_scan.specs.steps.Published.{PublishesSection}
+use Rattle.gdb_scan.specs.steps.Gathered.{Gathers}
 use Rattle.gdb_scan.proofs.Grouping.{add_all-append}
 
 abbrev pub holds_names : Class → List ℕ → ℕ × List ℕ → Bool
@@ -56,7 +56,7 @@ first_bad c object file us done s rest names e whole passed h cause = record {
   before = filter (holds_names c file) done;
   section = s;
   after = filter (holds_names c file) rest;
-  place =
+  listed =
       ap (filter (holds_names c file)) (sym whole)
       ∙ filter-append (holds_names c file) done (s ∷ rest)
       ∙ ap (λ l. filter (holds_names c file) done ++ l) (cond-true (holds_names c file s) (s ∷ filter (holds_names c file) rest) (filter (holds_names c file) rest) passed);

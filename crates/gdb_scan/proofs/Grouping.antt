@@ -269,24 +269,24 @@ module _ {X : Type 0} where
 
   -- a value of a name that is there joins that name's values
   pub shown-set : (es : List (Key × Vec X Global)) (k : Key) (i : ℕ) (old w : Vec X Global) (x : List X) → position_or_len (same k) (keys_of es) ≡ i → slice_get (values_in es) i ≡ Some old → w.items ≡ old.items ++ x → shown (set_value_at es i w) ≡ add_list (shown es) k.now x
-  shown-set [] k i old w x place at items = absurd (cc at)
-  shown-set (e ∷ es) k zero old w x place at items = by (same k e.0) refl
+  shown-set [] k i old w x found at items = absurd (cc at)
+  shown-set (e ∷ es) k zero old w x found at items = by (same k e.0) refl
     where
       by : (b : Bool) → same k e.0 ≡ b → shown (set_value_at (e ∷ es) zero w) ≡ add_list (shown (e ∷ es)) k.now x
       by true is =
           let same_values : e.1 ≡ old = cc at in
           (λ j. (e.0.now, (items ∙ ap (λ (v : Vec X Global). v.items ++ x) (sym same_values)) j) ∷ shown es)
           ∙ sym (ap (λ b. cond b ((e.0.now, e.1.items ++ x) ∷ shown es) ((e.0.now, e.1.items) ∷ add_list (shown es) k.now x)) is)
-      by false is = let no : 1 + position_or_len (same k) (keys_of es) ≡ zero = sym (ap (λ b. cond (not b) (1 + position_or_len (same k) (keys_of es)) 0) is) ∙ place in absurd (omega (arith, no))
-  shown-set (e ∷ es) k (suc i) old w x place at items = by (same k e.0) refl (λ there. shown-set es k i old w x there at items)
+      by false is = let no : 1 + position_or_len (same k) (keys_of es) ≡ zero = sym (ap (λ b. cond (not b) (1 + position_or_len (same k) (keys_of es)) 0) is) ∙ found in absurd (omega (arith, no))
+  shown-set (e ∷ es) k (suc i) old w x found at items = by (same k e.0) refl (λ there. shown-set es k i old w x there at items)
     where
       by : (b : Bool) → same k e.0 ≡ b → (position_or_len (same k) (keys_of es) ≡ i → shown (set_value_at es i w) ≡ add_list (shown es) k.now x) → shown (set_value_at (e ∷ es) (suc i) w) ≡ add_list (shown (e ∷ es)) k.now x
-      by true is rest = let no : zero ≡ suc i = sym (ap (λ b. cond (not b) (1 + position_or_len (same k) (keys_of es)) 0) is) ∙ place in absurd (omega (arith, no))
+      by true is rest = let no : zero ≡ suc i = sym (ap (λ b. cond (not b) (1 + position_or_len (same k) (keys_of es)) 0) is) ∙ found in absurd (omega (arith, no))
       by false is rest =
-          let more : 1 + position_or_len (same k) (keys_of es) ≡ suc i = sym (ap (λ b. cond (not b) (1 + position_or_len (same k) (keys_of es)) 0) is) ∙ place in
+          let more : 1 + position_or_len (same k) (keys_of es) ≡ suc i = sym (ap (λ b. cond (not b) (1 + position_or_len (same k) (keys_of es)) 0) is) ∙ found in
           ap (λ (l : List (Name × List X)). (e.0.now, e.1.items) ∷ l) (rest (omega (arith, more)))
           ∙ sym (ap (λ b. cond b ((e.0.now, e.1.items ++ x) ∷ shown es) ((e.0.now, e.1.items) ∷ add_list (shown es) k.now x)) is)
 
-pub place_of : (b : Bool) (n i : ℕ) → Some i ≡ cond b (Some n) None → n ≡ i
-place_of true n i is = cc is
-place_of false n i is = absurd (cc is)
+pub index_from_some : (b : Bool) (n i : ℕ) → Some i ≡ cond b (Some n) None → n ≡ i
+index_from_some true n i is = cc is
+index_from_some false n i is = absurd (cc is)

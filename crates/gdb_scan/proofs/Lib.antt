@@ -7,4 +7,5 @@ pub mod Causes
 pub mod Gathering
 pub mod Sounding
 pub mod OneCause
-pub mod Telling
+pub mod OneScan
+pub mod Assigning

@@ -14,7 +14,7 @@ pub at_end : {A : Type 0} (view : A → ℕ × List ℕ) (s t : List (ℕ × Lis
 at_end view s t None e h = h.0
 at_end view s t (Some y) e h = absurd (cc e)
 
--- what stands behind some sections that are done stands at its index
+-- a section after those that are done stands at its index
 Stands : List (List ℕ) → ℕ → ℕ → List ℕ → Type 0
 Stands xs from index header = (k : ℕ) × (index ≡ from + k) × (slice_get xs k ≡ Some header)
 

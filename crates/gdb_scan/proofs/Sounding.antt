@@ -25,7 +25,7 @@ use Rattle.gdb_scan.specs.Groups.{names_of, values_of, groups}
 use Rattle.gdb_scan.specs.Marks.{marks_at, marks_in, marks_of}
 use Rattle.gdb_scan.specs.Scan.{ObjectScan, IsObjectName, IsSoundScan}
 use Rattle.gdb_scan.specs.PlacedIn.{IsBefore, ArePlacements, NameSections, of_object, is_counted, placed_in}
-use Rattle.gdb_scan.specs.Gathered.{GathersNames}
+use Rattle.gdb_scan.specs.steps.Gathered.{GathersNames}
 use Rattle.gdb_scan.specs.Cause.{IsNamesCause, FailsInNames}
 use Rattle.gdb_scan.specs.Scanned.{ScansObject}
 use Rattle.gdb_scan.specs.declared.error.GdbError.{GdbError}
@@ -119,16 +119,16 @@ each-values P n (p ∷ ps) h =
 IsMarkOf : ℕ → Name × Mark → Type 0
 IsMarkOf units p = All (λ (c : ℕ). c ≢ 0) p.0 × (p.1.unit < units)
 
-entries_sound : (units place : ℕ) (es : List Entry) → place < units → AllByRecursion (λ (e : Entry). All (λ (c : ℕ). c ≢ 0) e.name) es → AllByRecursion (IsMarkOf units) (marks_at (Some place) es)
+entries_sound : (units index : ℕ) (es : List Entry) → index < units → AllByRecursion (λ (e : Entry). All (λ (c : ℕ). c ≢ 0) e.name) es → AllByRecursion (IsMarkOf units) (marks_at (Some index) es)
 unfolding IsMarkOf
-entries_sound units place [] l h = tt
-entries_sound units place (e ∷ es) l h = ((h.0, l), entries_sound units place es l h.1)
+entries_sound units index [] l h = tt
+entries_sound units index (e ∷ es) l h = ((h.0, l), entries_sound units index es l h.1)
 
 set_sound : (us : List CuBoundary) (s : NameSet) → IsClean s → AllByRecursion (IsMarkOf (length us)) (marks_in us s)
 set_sound us s clean = by (unit_at us s.unit) refl where
   by : (o : Option ℕ) → unit_at us s.unit ≡ o → AllByRecursion (IsMarkOf (length us)) (marks_at (unit_at us s.unit) s.entries)
   by None is = subst (λ o. AllByRecursion (IsMarkOf (length us)) (marks_at o s.entries)) (sym is) tt
-  by (Some place) is = subst (λ o. AllByRecursion (IsMarkOf (length us)) (marks_at o s.entries)) (sym is) (entries_sound (length us) place s.entries (position-Some (λ (u : CuBoundary). eqb u.offset s.unit) us place (record { offset = 0; length = 0 }) is).0 (each_from_All (λ (e : Entry). All (λ (c : ℕ). c ≢ 0) e.name) s.entries clean))
+  by (Some index) is = subst (λ o. AllByRecursion (IsMarkOf (length us)) (marks_at o s.entries)) (sym is) (entries_sound (length us) index s.entries (position-Some (λ (u : CuBoundary). eqb u.offset s.unit) us index (record { offset = 0; length = 0 }) is).0 (each_from_All (λ (e : Entry). All (λ (c : ℕ). c ≢ 0) e.name) s.entries clean))
 
 marks_sound : (us : List CuBoundary) (ss : List NameSet) → AllByRecursion IsClean ss → AllByRecursion (IsMarkOf (length us)) (marks_of us ss)
 marks_sound us [] h = tt
@@ -171,7 +171,7 @@ filter_le p (x ∷ xs) = by (p x) refl (filter_le p xs) where
 
 own_few : (object limit low : ℕ) (ps : List Placement) → AllPairs IsBefore ps → All (λ p. p.object ≡ object → p.section < limit) ps → All (λ p. p.object ≡ object → low ≤ p.section) ps → low ≤ limit → low + length (of_object object ps) ≤ limit
 own_few object limit low [] ascend named from le = omega arith
-own_few object limit low (p ∷ ps) ascend named from le = by (λ start behind fits. own_few object limit start ps rest_ascends rest_named behind fits) (eqb p.object object) refl where
+own_few object limit low (p ∷ ps) ascend named from le = by (λ start after fits. own_few object limit start ps rest_ascends rest_named after fits) (eqb p.object object) refl where
   rest_ascends : AllPairs IsBefore ps
   rest_ascends i j d less l = ascend (suc i) (suc j) d (omega arith) (omega arith)
 
@@ -183,7 +183,7 @@ own_few object limit low (p ∷ ps) ascend named from le = by (λ start behind f
 
   later : (q : Placement) → IsBefore p q → p.object ≡ object → q.object ≡ object → p.section + 1 ≤ q.section
   later q (inl lower) here there = absurd (omega (arith, lower, here, there))
-  later q (inr behind) here there = omega (arith, behind.1)
+  later q (inr after) here there = omega (arith, after.1)
 
   by : ((start : ℕ) → All (λ q. q.object ≡ object → start ≤ q.section) ps → start ≤ limit → start + length (of_object object ps) ≤ limit) → (b : Bool) → eqb p.object object ≡ b → low + length (of_object object (p ∷ ps)) ≤ limit
   by rest true is =
@@ -217,12 +217,15 @@ with_unit : (us : List CuBoundary) (n : ℕ) → 0 < length us → n ≡ cond (h
 with_unit [] n some = absurd (omega arith)
 with_unit (u ∷ us) n some = refl
 
+with_some : (us : List CuBoundary) → 0 < length us → us ≢ []
+with_some us some none = omega (arith, some, ap length none)
+
 pub scanned : (c : Class) (file : List ℕ) (object : ℕ) (ps : List Placement) (us : List CuBoundary) (gs : List (Name × List Mark)) (placed : ℕ) (scan : ObjectScan) → scan ≡ record { units = us; names = gs; placed = placed } → IsUnitsOf c file us → 0 < length us → GathersNames c file us gs → first_compressed c file ≡ None → placed ≡ placed_in c file object ps → 40 * length (sections c file) ≤ length file → ScansObject c file object ps (Some scan)
 scanned c file object ps us gs placed scan is units some gathered plain count room = record {
   held = record { units = us; sets = gathered.sets };
   is_object = record { units = units; sets = beside c file us gathered.sets some gathered.list };
   plain = plain;
-  is_scan = (ap (λ (s : ObjectScan). s.units) is, ap (λ (s : ObjectScan). s.names) is ∙ gathered_groups c file us gs gathered);
+  is_scan = (ap (λ (s : ObjectScan). s.units) is, ap (λ (s : ObjectScan). s.names) is ∙ gathered_groups c file us gs gathered, with_some us some);
   placed = ap (λ (s : ObjectScan). s.placed) is ∙ count ∙ with_unit us (placed_in c file object ps) some;
   room = room;
 }

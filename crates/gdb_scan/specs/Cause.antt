@@ -1,32 +1,18 @@
--- Why an object is not scanned, and why objects are not gathered. Want of memory needs no cause.
+-- Why an object is not scanned. Out of memory needs no cause.
 use Rattle.std.specs.Prelude.{◌≡◌, ◌⊎◌, ℕ, List, ◌∷◌, ◌++◌, Some, None, Result, MatchResult}
 use Rattle.elf_format.specs.declared.error.ElfError.TheVariants.{SectionData}
 use Rattle.elf_format.specs.declared.index.SectionIndex.{SectionIndex}
 use Rattle.elf_format.specs.Class.{Class}
 use Rattle.elf_format.specs.Section.{section_bytes}
 use Rattle.gdb_index_format.specs.declared.unit.CuBoundary.{CuBoundary}
-use Rattle.gdb_index_format.specs.declared.unit.UnitFault.TheVariants as faults
 use Rattle.gdb_index_format.specs.Units.{FailsAt}
 use Rattle.gdb_index_format.specs.Names.{NameSet, IsSetList}
 use Rattle.gdb_index_format.specs.Objects.{info_bytes, pubnames_sections, first_compressed, IsUnitsOf, AreSetsOfSections}
-use Rattle.dwarf_sections.specs.declared.units.UnitError.{UnitError}
-use Rattle.dwarf_sections.specs.declared.units.UnitError.TheVariants as units
-use Rattle.dwarf_sections.specs.declared.set_error.SetError.{SetError}
-use Rattle.dwarf_sections.specs.declared.set_error.SetError.TheVariants as sets
 use Rattle.gdb_scan.specs.declared.error.GdbError.{GdbError}
 use Rattle.gdb_scan.specs.declared.error.GdbError.TheVariants.{BadElf, CompressedSection, BadUnit, BadPubnames, TooManyUnits, IndexTooLarge, NoMemory}
 
-abbrev pub of_unit_error : ℕ → UnitError → GdbError
-of_unit_error object (units.Truncated offset) = BadUnit object offset faults.Truncated
-of_unit_error object (units.InvalidLength offset) = BadUnit object offset faults.InvalidLength
-of_unit_error object units.NoMemory = NoMemory
-
-abbrev pub of_set_error : ℕ → SectionIndex → SetError → GdbError
-of_set_error object section sets.BadSet = BadPubnames object section
-of_set_error object section sets.NoMemory = NoMemory
-
--- why the units of an object are not read: the bytes of its `.debug_info` leave the file, or no unit begins
--- at a place of them
+-- why the units of an object are not read: the bytes of its `.debug_info` are out of range, or no unit begins at an
+-- offset of them
 abbrev pub IsUnitCause : Class → ℕ → List ℕ → GdbError → Type 0
 IsUnitCause c object file (BadElf i kind) = (i ≡ object) × (kind ≡ SectionData) × (info_bytes c file ≡ None)
 IsUnitCause c object file (CompressedSection i s) = ⊥
@@ -36,7 +22,7 @@ IsUnitCause c object file (TooManyUnits n) = ⊥
 IsUnitCause c object file (IndexTooLarge n) = ⊥
 IsUnitCause c object file NoMemory = Unit {0}
 
--- why the bytes of a section of names are not read: they are no list of sets
+-- why the bytes of a pubnames section are not read: they are no list of sets
 abbrev pub IsSetsCause : ℕ → SectionIndex → List ℕ → GdbError → Type 0
 IsSetsCause object section bytes (BadElf i kind) = ⊥
 IsSetsCause object section bytes (CompressedSection i at) = ⊥
@@ -46,8 +32,7 @@ IsSetsCause object section bytes (TooManyUnits n) = ⊥
 IsSetsCause object section bytes (IndexTooLarge n) = ⊥
 IsSetsCause object section bytes NoMemory = Unit {0}
 
--- why a section of names, by its index and its header, is not read: its bytes leave the file, or are no list
--- of sets
+-- why a pubnames section, by its index and its header, is not read: its bytes are out of range, or no list of sets
 pub data IsSectionCause (c : Class) (object : ℕ) (file : List ℕ) (s : ℕ × List ℕ) : GdbError → Type 0 where
   leaves : section_bytes c file s.1 ≡ None → IsSectionCause c object file s (BadElf object SectionData)
   no_sets : (bytes : List ℕ) → section_bytes c file s.1 ≡ Some bytes → (e : GdbError) → IsSetsCause object (record { 0 = s.0 }) bytes e → IsSectionCause c object file s e
@@ -57,7 +42,7 @@ pub record FirstBadSection (c : Class) (object : ℕ) (file : List ℕ) (section
   pub before : List (ℕ × List ℕ)
   pub section : ℕ × List ℕ
   pub after : List (ℕ × List ℕ)
-  pub place : sections ≡ before ++ section ∷ after
+  pub listed : sections ≡ before ++ section ∷ after
   pub sets : List NameSet
   pub sound : AreSetsOfSections c file before sets
   pub cause : IsSectionCause c object file section e
@@ -81,11 +66,11 @@ pub data IsScanCause (c : Class) (object : ℕ) (file : List ℕ) : GdbError →
   in_names : (e : GdbError) → first_compressed c file ≡ None → FailsInNames c object file e → IsScanCause c object file e
   no_memory : IsScanCause c object file NoMemory
 
--- what is answered where an error has a cause: that error, or want of memory
+-- the answer where an error has a cause: that error, or out of memory
 abbrev pub IsRefusedFor : {X : Type 0} → Result X GdbError → GdbError → Type 0
 IsRefusedFor r e = MatchResult r (λ _. ⊥) (λ f. (f ≡ e) ⊎ (f ≡ NoMemory))
 
--- want of memory, and no other refusal
+-- out of memory, and no other refusal
 abbrev pub IsOnlyMemory : GdbError → Type 0
 IsOnlyMemory (BadElf i kind) = ⊥
 IsOnlyMemory (CompressedSection i s) = ⊥

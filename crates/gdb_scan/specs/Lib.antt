@@ -1,11 +1,10 @@
 pub mod Groups
 pub mod Marks
-pub mod Section
 pub mod Scan
 pub mod PlacedIn
 pub mod Cause
-pub mod Gathered
 pub mod Scanned
-pub mod Told
+pub mod Moved
 pub mod MapCause
 pub mod Laws
+pub mod steps

@@ -1,20 +1,10 @@
--- Why the units of sections are not found. Want of memory needs no cause.
-use Rattle.std.specs.Prelude.{◌≡◌, ℕ, Bool, true, List, Option, Some}
-use Rattle.std.specs.List.{list_any}
-use Rattle.elf_format.specs.declared.crel.Crel.{Crel}
+-- Why the units of sections are not found. Out of memory needs no cause.
+use Rattle.std.specs.Prelude.{◌≡◌, ◌≢◌, Option, Some}
 use Rattle.elf_format.specs.declared.error.ElfError.{ElfError}
-use Rattle.elf_format.specs.declared.error.ElfError.TheVariants.{SymbolIndex}
-use Rattle.elf_format.specs.Class.{Class}
 use Rattle.gdb_scan.specs.declared.map_error.MapError.{MapError}
 use Rattle.gdb_scan.specs.declared.map_error.MapError.TheVariants.{Elf, NoMemory}
-use Rattle.gdb_scan.specs.Told.{lacks_symbol}
 
--- this is what is wrong with the relocations
+-- this is the fault of the relocations
 abbrev pub IsMapCause : Option ElfError → MapError → Type 0
 IsMapCause fault (Elf e) = fault ≡ Some e
 IsMapCause fault NoMemory = Unit {0}
-
--- of these relocations one lacks its symbol
-abbrev pub IsSymbolCause : Class → Bool → List ℕ → List Crel → MapError → Type 0
-IsSymbolCause c is_dynamic file rs (Elf e) = (e ≡ SymbolIndex) × (list_any (lacks_symbol c is_dynamic file) rs ≡ true)
-IsSymbolCause c is_dynamic file rs NoMemory = Unit {0}

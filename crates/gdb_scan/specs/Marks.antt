@@ -8,11 +8,11 @@ use Rattle.gdb_scan.specs.declared.mark.Mark.{Mark}
 use Rattle.gdb_scan.specs.declared.mark.NameMarks.{NameMarks}
 
 abbrev pub mark_of : ℕ → Entry → List ℕ × Mark
-mark_of place e = (e.name, record { unit = place; flag = e.flag })
+mark_of unit e = (e.name, record { unit = unit; flag = e.flag })
 
 abbrev pub marks_at : Option ℕ → List Entry → List (List ℕ × Mark)
 marks_at None es = []
-marks_at (Some place) es = map (mark_of place) es
+marks_at (Some unit) es = map (mark_of unit) es
 
 -- what a set publishes: nothing where its offset is that of no unit
 abbrev pub marks_in : List CuBoundary → NameSet → List (List ℕ × Mark)

@@ -1,10 +1,9 @@
 -- What one object holds for an index.
-use Rattle.std.specs.Prelude.{◌≡◌, ◌≢◌, ℕ, ◌+◌, ◌*◌, ◌^◌, ◌<◌, ◌≤◌, List, [], ◌∷◌, ◌++◌, map, length, sum, Option, Some, None}
-use Rattle.std.specs.List.{All, AllByRecursion, flat_map}
+use Rattle.std.specs.Prelude.{◌≡◌, ◌≢◌, ℕ, ◌+◌, ◌*◌, ◌^◌, ◌<◌, ◌≤◌, List, [], ◌∷◌, ◌++◌, length, Option, Some, None}
+use Rattle.std.specs.List.{All, AllByRecursion}
 use Rattle.gdb_index_format.specs.declared.unit.CuBoundary.{CuBoundary}
-use Rattle.gdb_index_format.specs.Hash.{element_of}
 use Rattle.gdb_index_format.specs.Units.{total_length}
-use Rattle.gdb_index_format.specs.Published.{Object, Pair}
+use Rattle.gdb_index_format.specs.Published.{Object}
 use Rattle.gdb_scan.specs.declared.mark.Mark.{Mark}
 use Rattle.gdb_scan.specs.Groups.{groups}
 use Rattle.gdb_scan.specs.Marks.{marks_of}
@@ -43,11 +42,11 @@ abbrev pub placed_in_scan : Option ObjectScan → ℕ
 placed_in_scan None = 0
 placed_in_scan (Some s) = s.placed
 
--- the names of a scan are sound for its units
+-- the names of a scan have marks of its units alone
 abbrev pub HasSoundNames : Option ObjectScan → Type 0
 HasSoundNames s = AllByRecursion (IsObjectName (length (units_in_scan s))) (names_in_scan s)
 
--- this is the scan of an object, its placed sections aside
+-- this is the scan of an object, the number of its placed sections aside: none exactly where the object has no unit
 abbrev pub IsScanOf : Object → Option ObjectScan → Type 0
 IsScanOf o None = o.units ≡ []
-IsScanOf o (Some s) = (s.units ≡ o.units) × (s.names ≡ groups (marks_of o.units o.sets))
+IsScanOf o (Some s) = (s.units ≡ o.units) × (s.names ≡ groups (marks_of o.units o.sets)) × (o.units ≢ [])

@@ -1,18 +1,18 @@
-//! Units whose offsets ascend, so that the unit of an offset is found by halving.
+//! Units whose offsets ascend, so that the unit of an offset is found by binary search.
 
 ghost use Rattle.std.specs.Prelude.{◌≡◌};
 ghost use Rattle.dwarf_sections.specs.UnitSearch.{Ascend};
 
 use gdb_index_format::CuBoundary;
 
-/// Units of which it is known that their offsets ascend.
+/// Units whose offsets ascend.
 #[derive(Clone, Copy)]
 pub(crate) struct AscendingUnits<'u> {
     pub(crate) units: &'u [CuBoundary],
     ghost ascend: { Ascend units.now },
 }
 
-/// The units, whose offsets ascend.
+/// Returns the units, with the fact that their offsets ascend.
 pub(crate) fn ascending(units: &[CuBoundary]) -> AscendingUnits<'_>
     requires { Ascend units.now }
     ensures { result.units.now ≡ units.now }

@@ -1,4 +1,5 @@
-//! Finds the sections of debugging information by their names, and says which of them is compressed.
+//! The sections of an object that an index is made from, by their names (GDB manual, "Index Section Format"): the
+//! first `.debug_info`, and all `.debug_gnu_pubnames` and `.debug_gnu_pubtypes`.
 
 ghost use Rattle.std.specs.Prelude.{◌≡◌, ◌&&◌, List, ℕ, Some, IfErr, option_map, option_copied, slice_get};
 ghost use Rattle.std.specs.Result.{result_ok};
@@ -13,28 +14,28 @@ use elf_format::{ElfError, SectionIndex};
 use elf_view::File;
 use elf_words::{ElfClass, SHF_COMPRESSED, SectionHeaderFields};
 
-/// The section whose units are read: the first of its name.
+/// The section whose compilation units (CUs) are read: the first of its name.
 const DEBUG_INFO: &str = ".debug_info";
 
-/// Whether the section at an index holds sets of names: `.debug_gnu_pubnames` or `.debug_gnu_pubtypes`.
-pub fn is_names_section<C: ElfClass>(file: &File<'_, C>, index: SectionIndex) -> bool
+/// Returns whether the section at an index has the name `.debug_gnu_pubnames` or `.debug_gnu_pubtypes`.
+pub fn is_pubnames_section<C: ElfClass>(file: &File<'_, C>, index: SectionIndex) -> bool
     ensures { (header : List ℕ) → slice_get (sections C.class file.now.bytes) index.0 ≡ Some header → result ≡ objects.is_pubnames_section C.class file.now.bytes header }
 {
     file.has_name(index, b".debug_gnu_pubnames") || file.has_name(index, b".debug_gnu_pubtypes")
 }
 
-/// Whether the section at an index is one of those that are read.
+/// Returns whether the section at an index is one of those that are read.
 fn is_read<C: ElfClass>(file: &File<'_, C>, info: Option<SectionIndex>, index: SectionIndex) -> bool
     requires { option_map (λ i. i.0) info ≡ objects.info_section C.class file.now.bytes }
     ensures { (header : List ℕ) → slice_get (sections C.class file.now.bytes) index.0 ≡ Some header → result ≡ objects.is_read C.class file.now.bytes (index.0, header) }
 {
     match info {
-        Some(found) => found.0 == index.0 || is_names_section(file, index),
-        None => is_names_section(file, index),
+        Some(found) => found.0 == index.0 || is_pubnames_section(file, index),
+        None => is_pubnames_section(file, index),
     }
 }
 
-/// The section whose units are read, by its index.
+/// Returns the index of the section whose units are read.
 fn info_section<C: ElfClass>(file: &File<'_, C>) -> Option<SectionIndex>
     ensures { option_map (λ i. i.0) result ≡ objects.info_section C.class file.now.bytes }
 {
@@ -42,7 +43,7 @@ fn info_section<C: ElfClass>(file: &File<'_, C>) -> Option<SectionIndex>
     Some(index)
 }
 
-/// Whether a section is one of those that are read, and its bytes are compressed.
+/// Returns whether a section is one of those that are read, and has the flag SHF_COMPRESSED.
 fn is_compressed<C: ElfClass>(
     file: &File<'_, C>,
     info: Option<SectionIndex>,
@@ -59,7 +60,8 @@ fn is_compressed<C: ElfClass>(
     is_read(file, info, index)
 }
 
-/// The lowest section, of the first `.debug_info` and the sections of names, whose bytes are compressed.
+/// Returns the lowest index of a section with the flag SHF_COMPRESSED, of the first `.debug_info` and the pubnames
+/// sections. None where none of them is compressed.
 #[tactic(auto, using(elf_format::proofs::SearchLemmas::rest_after, elf_format::proofs::SearchLemmas::item_at_front))]
 pub fn first_compressed<C: ElfClass>(file: &File<'_, C>) -> Option<SectionIndex>
     ensures { option_map (λ i. i.0) result ≡ objects.first_compressed C.class file.now.bytes }
@@ -73,8 +75,8 @@ pub fn first_compressed<C: ElfClass>(file: &File<'_, C>) -> Option<SectionIndex>
     None
 }
 
-/// The bytes of the first `.debug_info`, none where there is no such section. It is refused as `SectionData`
-/// exactly where they leave the file.
+/// Returns the bytes of the first `.debug_info`, no bytes where there is no such section. `SectionData` comes exactly
+/// where they are out of range.
 pub fn debug_info<'a, C: ElfClass>(file: &File<'a, C>) -> Result<&'a [u8], ElfError>
     ensures found { option_copied (result_ok result) ≡ objects.info_bytes C.class file.now.bytes }
     ensures error { IfErr result (λ e. e ≡ SectionData) }

@@ -1,7 +1,7 @@
-//! Why there is no index, told by the object and the section at fault.
+//! Why there is no index, with the object and the section that is malformed.
 
 ghost use Rattle.std.specs.Prelude.{◌≡◌};
-ghost use Rattle.gdb_scan.specs.Cause.{of_unit_error, of_set_error};
+ghost use Rattle.gdb_scan.specs.steps.ErrorOf.{of_unit_error, of_set_error};
 
 use dwarf_sections::{SetError, UnitError};
 use elf_format::{ElfError, SectionIndex};
@@ -9,33 +9,33 @@ use gdb_index_format::UnitFault;
 use std::alloc::{AllocError, AllocFailed};
 use thiserror::Error;
 
-/// Why the objects are not gathered. An object is told by its place in the input, from 0.
+/// Why there is no index. An object has its index in the input, from 0.
 #[derive(Clone, Copy, Debug, PartialEq, Eq, Error)]
 pub enum GdbError {
-    /// A section of the object that is read leaves the file (`SectionData`), or another of its ELF parts is
-    /// at fault.
-    #[error("object {0} is no sound ELF file")]
+    /// The bytes of a section of the object that is read are out of range (`SectionData`), or another of its ELF parts is
+    /// malformed.
+    #[error("object {0} is a malformed ELF file")]
     BadElf(usize, ElfError),
     /// The section of the object is compressed: the lowest of those that are read and are compressed.
     #[error("a section of object {0} is compressed")]
     CompressedSection(usize, SectionIndex),
-    /// At this offset of the object's `.debug_info`, in bytes from its start, no unit begins.
-    #[error("the unit at {offset} of object {object} is not sound")]
+    /// At this offset of the object's `.debug_info`, in bytes from its start, no compilation unit (CU) begins.
+    #[error("the unit at {offset} of object {object} is malformed")]
     BadUnit {
         object: usize,
         offset: u64,
         fault: UnitFault,
     },
-    /// The section of the object is no list of sets of names.
-    #[error("a section of names of object {0} is not sound")]
+    /// The `.debug_gnu_pubnames` or `.debug_gnu_pubtypes` section of the object is no list of sets.
+    #[error("a pubnames section of object {0} is malformed")]
     BadPubnames(usize, SectionIndex),
-    /// So many units are more than the words of an index can number: above 16,777,216.
+    /// So many units are more than the elements of a CU vector can number: above 16,777,216.
     #[error("there are {0} units, more than an index can number")]
     TooManyUnits(u64),
     /// An index of so many bytes is larger than its offsets can count: above 4,294,967,295.
     #[error("the index would have {0} bytes, more than it can count")]
     IndexTooLarge(u128),
-    /// There is no memory.
+    /// Out of memory.
     #[error("out of memory")]
     NoMemory,
 }
@@ -62,7 +62,7 @@ impl<T: Drop> From<AllocFailed<T>> for GdbError {
     }
 }
 
-/// Why the units of an object are not read.
+/// Returns the error of an object whose units are not read.
 pub(crate) fn of_units(object: usize, error: UnitError) -> GdbError
     ensures { result ≡ of_unit_error object error }
 {
@@ -81,7 +81,7 @@ pub(crate) fn of_units(object: usize, error: UnitError) -> GdbError
     }
 }
 
-/// Why a section of names of an object is not read.
+/// Returns the error of an object whose pubnames section is not read.
 pub(crate) fn of_names(object: usize, section: SectionIndex, error: SetError) -> GdbError
     ensures { result ≡ of_set_error object section error }
 {

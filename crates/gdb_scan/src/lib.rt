@@ -17,13 +17,12 @@ mod placed;
 mod relocations;
 mod scan;
 
-pub use debug_sections::{debug_info, first_compressed, is_names_section};
+pub use debug_sections::{debug_info, first_compressed, is_pubnames_section};
 pub use error::GdbError;
-pub use laws::scan_causes_are_one;
-pub use map::build_section_cu_map;
+pub use laws::{map_causes_are_one, scan_causes_are_one, scans_are_one};
+pub use map::{build_section_cu_map, section_units};
 pub use map_error::MapError;
 pub use mark::{Mark, NameMarks};
-pub use names::publish;
 pub use object_scan::PerObjectScan;
 pub use placed::{is_code_placement, placements_of};
 pub use scan::{read_units, scan_one_object};

@@ -7,11 +7,11 @@ use thiserror::Error;
 /// Why the units of an object's sections are not found.
 #[derive(Clone, Copy, Debug, PartialEq, Eq, Error)]
 pub enum MapError {
-    /// The relocations of the object's units are at fault: their bytes leave the file (`SectionData`), or are no
-    /// whole records (`RelocationTable`), or a symbol or the index of its section is missing (`SymbolIndex`).
-    #[error("the relocations of the units are not sound")]
+    /// The relocations of the object's `.debug_info` are malformed: their bytes are out of range (`SectionData`), or no
+    /// whole RELA records (`RelocationTable`), or a symbol or the index of its section is missing (`SymbolIndex`).
+    #[error("the relocations of the units are malformed")]
     Elf(ElfError),
-    /// There is no memory.
+    /// Out of memory.
     #[error("out of memory")]
     NoMemory,
 }

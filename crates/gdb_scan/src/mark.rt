@@ -3,7 +3,7 @@
 /// One publication of a name.
 #[derive(Clone, Copy, Debug, PartialEq, Eq)]
 pub struct Mark {
-    /// The place of the unit among the units of its object, from 0.
+    /// The index of the unit among the units of its object, from 0.
     pub unit: usize,
     /// The flag byte: the kind of symbol in bits 4 to 6, and bit 7 where the symbol is static (GDB manual,
     /// "Index Section Format").

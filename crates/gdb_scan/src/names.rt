@@ -1,4 +1,4 @@
-//! Names in the order of their first publication, each with what is published of it.
+//! Names in the order of first publication, each with what is published of it.
 
 ghost use Rattle.std.specs.Prelude.{◌≡◌, OnOk};
 ghost use Rattle.gdb_scan.specs.Groups.{shown, add};
@@ -6,8 +6,8 @@ ghost use Rattle.gdb_scan.specs.Groups.{shown, add};
 use indexmap::IndexMap;
 use std::alloc::{AllocError, Global};
 
-/// Publishes a value of a name. A new name goes last.
-pub fn publish<'a, X: Drop>(
+/// Adds a value to those of a name. A new name goes last.
+pub(crate) fn publish<'a, X: Drop>(
     names: &mut IndexMap<&'a [u8], Vec<X>>,
     alloc: Global,
     name: &'a [u8],

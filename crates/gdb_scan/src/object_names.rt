@@ -9,7 +9,7 @@ ghost use Rattle.dwarf_sections.specs.Sets.{set_in, sets_in};
 ghost use Rattle.dwarf_sections.specs.UnitSearch.{Ascend};
 ghost use Rattle.gdb_scan.specs.Groups.{shown, add_all};
 ghost use Rattle.gdb_scan.specs.Marks.{marks_in, marks_of, groups_in};
-ghost use Rattle.gdb_scan.specs.Section.{PublishesSection};
+ghost use Rattle.gdb_scan.specs.steps.Published.{PublishesSection};
 
 use crate::mark::{Mark, NameMarks};
 use crate::names::publish;
@@ -18,7 +18,7 @@ use gdb_index_format::CuBoundary;
 use indexmap::IndexMap;
 use std::alloc::{AllocError, Global};
 
-/// Publishes the names of a set, if it is one of these units'.
+/// Publishes the names of a set, if one of the units begins at the set's offset.
 fn publish_set<'a>(
     names: &mut IndexMap<&'a [u8], Vec<Mark>>,
     alloc: Global,
@@ -61,7 +61,7 @@ fn publish_sets<'a>(
     Ok(())
 }
 
-/// Publishes the names of a section of sets.
+/// Publishes the names of a pubnames section.
 pub(crate) fn publish_section<'a>(
     names: &mut IndexMap<&'a [u8], Vec<Mark>>,
     alloc: Global,
@@ -77,7 +77,7 @@ pub(crate) fn publish_section<'a>(
     Ok(())
 }
 
-/// The entries of a map, in order.
+/// Returns the entries of a map, in order.
 pub(crate) fn listed<'a>(
     alloc: Global,
     names: IndexMap<&'a [u8], Vec<Mark>>,

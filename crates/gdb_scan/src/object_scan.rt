@@ -1,4 +1,4 @@
-//! What one object holds for an index, before its units have numbers among those of all objects.
+//! What one object gives to an index, before its compilation units (CUs) have indexes among those of all objects.
 
 ghost use Rattle.std.specs.Prelude.{◌≡◌};
 ghost use Rattle.gdb_scan.specs.Marks.{groups_in};
@@ -8,8 +8,8 @@ use crate::mark::NameMarks;
 use gdb_index_format::CuBoundary;
 use std::marker::Model;
 
-/// The units of an object, at least one, the names that it publishes, in the order of first publication, and how
-/// many of its sections are placed.
+/// The units of an object, at least one, the names that it publishes, in the order of first publication, and the number
+/// of its placements that count.
 #[derive(Debug, Drop)]
 pub struct PerObjectScan<'a> {
     units: Vec<CuBoundary>,
@@ -29,7 +29,7 @@ impl<'a> Model for PerObjectScan<'a> {
 }
 
 impl<'a> PerObjectScan<'a> {
-    /// The scan of these units and names, with so many placed sections.
+    /// Returns the scan with these units and names, and so many placements that count.
     pub(crate) fn new(units: Vec<CuBoundary>, names: Vec<NameMarks<'a>>, placed: usize) -> Self
         requires { IsSoundScan (record { units = units.items; names = groups_in names.items; placed = placed }) }
         ensures { result ≡ record { units = units.items; names = groups_in names.entry.items; placed = placed } }
@@ -41,7 +41,7 @@ impl<'a> PerObjectScan<'a> {
         }
     }
 
-    /// The object's units, each with its offset in the object's own `.debug_info`.
+    /// Returns the object's units, each with its offset in the object's own `.debug_info`, in bytes from its start.
     pub fn units(&self) -> &[CuBoundary]
         ensures units { result.now ≡ self.now.units }
         ensures sound { IsSoundScan self.now }
@@ -49,7 +49,7 @@ impl<'a> PerObjectScan<'a> {
         &self.units
     }
 
-    /// The names that the object publishes, in the order of first publication.
+    /// Returns the names that the object publishes, in the order of first publication.
     pub fn names(&self) -> &[NameMarks<'a>]
         ensures names { groups_in result.now ≡ self.now.names }
         ensures sound { IsSoundScan self.now }
@@ -57,7 +57,7 @@ impl<'a> PerObjectScan<'a> {
         &self.names
     }
 
-    /// How many of the object's sections are placed and hold code.
+    /// Returns how many of the object's placements count: those with a size, of sections of code.
     pub fn placed(&self) -> usize
         ensures placed { result ≡ self.now.placed }
         ensures sound { IsSoundScan self.now }

@@ -9,7 +9,8 @@ use elf_view::File;
 use elf_words::{ElfClass, SHF_ALLOC, SHF_EXECINSTR, SectionHeaderFields, SectionIndex};
 use gdb_index_format::Placement;
 
-/// The placements of an object, which stand together.
+/// Returns the placements of an object, which follow one another. Requires that placements ascend by object and
+/// section, and that their ends fit 64 bits.
 pub fn placements_of(object: usize, placements: &[Placement]) -> &[Placement]
     requires { ArePlacements placements.now }
     ensures { result.now ≡ of_object object placements.now }
@@ -19,7 +20,7 @@ pub fn placements_of(object: usize, placements: &[Placement]) -> &[Placement]
     &placements[start..end]
 }
 
-/// Whether a placed section has a size, takes memory and holds instructions.
+/// Returns whether a placement counts: it has a size, and its section the flags SHF_ALLOC and SHF_EXECINSTR.
 pub fn is_code_placement<C: ElfClass>(file: &File<'_, C>, placement: &Placement) -> bool
     ensures { result ≡ is_counted C.class file.now.bytes placement.now }
 {
@@ -35,7 +36,7 @@ pub fn is_code_placement<C: ElfClass>(file: &File<'_, C>, placement: &Placement)
     }
 }
 
-/// How many of an object's placements count.
+/// Returns how many of an object's placements count.
 pub(crate) fn count_placed<C: ElfClass>(file: &File<'_, C>, placements: &[Placement]) -> usize
     ensures { result ≡ length (filter (is_counted C.class file.now.bytes) placements.now) }
 {

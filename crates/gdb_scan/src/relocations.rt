@@ -1,19 +1,19 @@
-//! The relocations of an object's `.debug_info` (gABI, Relocation), and the sections that their symbols stand in.
+//! The relocations of an object's `.debug_info` (gABI, Relocation), and the sections in which their symbols are defined.
 
 ghost use Rattle.std.specs.Prelude.{◌≡◌};
 ghost use Rattle.elf_view.specs.SymbolSection.{IsSymbolSection};
 ghost use Rattle.gdb_index_format.specs.Addresses.{unit_relocations, records_in, section_of_relocation};
-ghost use Rattle.gdb_scan.specs.Told.{as_relocations};
+ghost use Rattle.gdb_scan.specs.steps.Assigned.{as_relocations};
 
 use elf_format::{ElfError, SectionIndex, SymbolIndex};
 use elf_relocs::RelaView;
 use elf_view::File;
 use elf_words::{ElfClass, SHT_RELA, SectionHeaderFields};
 
-/// The section whose relocations tell the units: the first of its name.
+/// The section whose relocations assign units: the first of its name.
 const UNIT_RELOCATIONS: &str = ".rela.debug_info";
 
-/// The relocations that a section holds, where its type is that of records with addends.
+/// Returns the relocations that a section holds, where its type is SHT_RELA.
 fn records_of<'a, C: ElfClass>(
     file: &File<'a, C>,
     header: &C::SectionHeader,
@@ -32,9 +32,9 @@ fn records_of<'a, C: ElfClass>(
     }
 }
 
-/// The relocations of an object's units, none where it has no section of that name, or one of another type. They
-/// are refused as `SectionData` exactly where their bytes leave the file, and as `RelocationTable` exactly where
-/// these are no whole records.
+/// Returns the relocations of an object's units, none where it has no section of that name, or one of another type.
+/// `SectionData` comes exactly where their bytes are out of range, and `RelocationTable` exactly where these are no
+/// whole records.
 #[tactic(auto, unfolding(gdb_index_format::specs::Addresses::unit_relocations))]
 pub(crate) fn unit_relocations<'a, C: ElfClass>(
     file: &File<'a, C>,
@@ -47,7 +47,7 @@ pub(crate) fn unit_relocations<'a, C: ElfClass>(
     records_of(file, &header)
 }
 
-/// The section that the symbol of a relocation stands in, none for symbol 0. It is refused as `SymbolIndex` exactly
+/// Returns the section in which the symbol of a relocation is defined, none for symbol 0. `SymbolIndex` comes exactly
 /// where the symbol, or the section index of it, is missing.
 pub(crate) fn section_of_symbol<C: ElfClass>(
     file: &File<'_, C>,

@@ -1,4 +1,5 @@
-//! The scan of one object: its units, the names that it publishes, and how many of its sections are placed.
+//! The scan of one object: its compilation units (CUs), the names that it publishes, and how many of its placements
+//! count.
 
 ghost use Rattle.std.specs.Prelude.{◌≡◌, ◌≢◌, ℕ, ◌*◌, ◌^◌, ◌<◌, ◌≤◌, List, None, IfOk, IfErr, OnOk, option_copied, length};
 ghost use Rattle.std.specs.Result.{result_ok};
@@ -10,14 +11,14 @@ ghost use Rattle.dwarf_sections.specs.UnitSearch.{Ascend};
 ghost use Rattle.gdb_scan.specs.declared.error.GdbError.{GdbError as GdbError_spec};
 ghost use Rattle.gdb_scan.specs.declared.error.GdbError.TheVariants.{BadElf, NoMemory};
 ghost use Rattle.gdb_scan.specs.Cause.{IsUnitCause, IsSetsCause, IsNamesCause, IsScanCause, IsRefusedFor, IsOnlyMemory};
-ghost use Rattle.gdb_scan.specs.Gathered.{GathersNames};
+ghost use Rattle.gdb_scan.specs.steps.Gathered.{GathersNames};
 ghost use Rattle.gdb_scan.specs.Groups.{shown};
 ghost use Rattle.gdb_scan.specs.PlacedIn.{ArePlacements, NameSections};
 ghost use Rattle.gdb_scan.specs.Scanned.{ScansObject};
-ghost use Rattle.gdb_scan.specs.Section.{PublishesSection};
+ghost use Rattle.gdb_scan.specs.steps.Published.{PublishesSection};
 
 use crate::ascending::{AscendingUnits, ascending};
-use crate::debug_sections::{debug_info, first_compressed, is_names_section};
+use crate::debug_sections::{debug_info, first_compressed, is_pubnames_section};
 use crate::error::{GdbError, of_names, of_units};
 use crate::mark::Mark;
 use crate::object_names::{listed, publish_section};
@@ -30,7 +31,7 @@ use gdb_index_format::{CuBoundary, Placement};
 use indexmap::IndexMap;
 use std::alloc::Global;
 
-/// The units of an object.
+/// Returns the units of an object.
 pub fn read_units<C: ElfClass>(
     alloc: Global,
     object: usize,
@@ -49,7 +50,7 @@ pub fn read_units<C: ElfClass>(
     }
 }
 
-/// The bytes of a section of names.
+/// Returns the bytes of a pubnames section.
 fn names_data<'a, C: ElfClass>(
     object: usize,
     file: &File<'a, C>,
@@ -64,7 +65,7 @@ fn names_data<'a, C: ElfClass>(
     }
 }
 
-/// Publishes the names of a section of names of an object.
+/// Publishes the names of a pubnames section of an object.
 fn publish_names<'a>(
     names: &mut IndexMap<&'a [u8], Vec<Mark>>,
     alloc: Global,
@@ -83,7 +84,7 @@ fn publish_names<'a>(
     }
 }
 
-/// The names of an object with a unit, section by section.
+/// Returns the names of an object with a unit, section by section.
 fn gather_names<'a, C: ElfClass>(
     alloc: Global,
     object: usize,
@@ -96,7 +97,7 @@ fn gather_names<'a, C: ElfClass>(
 {
     let mut names = IndexMap::new(alloc);
     for (index, header) in file.enumerate_sections() {
-        if !is_names_section(file, index) {
+        if !is_pubnames_section(file, index) {
             continue;
         }
         let bytes = names_data(object, file, &header)?;
@@ -105,17 +106,17 @@ fn gather_names<'a, C: ElfClass>(
     Ok(names)
 }
 
-/// The scan of an object, or none exactly where it has no unit. The object is told in refusals by its place in
-/// the input, and named by that place in the placements.
+/// Returns the scan of an object, none exactly where it has no unit. `object` is the object's index in the input, from 0:
+/// errors have it, and placements name the object by it.
 ///
-/// The refusals, in this order: `CompressedSection`, the lowest section among the first `.debug_info` and those
-/// of sets of names that is compressed; `BadElf` with `SectionData`, the bytes of `.debug_info` leave the file;
-/// `BadUnit`, at the first offset at which no unit begins; and in an object with a unit, for the first section of
-/// names that is at fault, `BadElf` with `SectionData`, its bytes leave the file, or `BadPubnames`, they are no
-/// list of sets. `NoMemory` may come at any object.
+/// The errors, in this order: `CompressedSection`, the lowest section that is compressed, of the first `.debug_info` and
+/// the `.debug_gnu_pubnames` and `.debug_gnu_pubtypes`; `BadElf` with `SectionData`, the bytes of `.debug_info` are out of
+/// range; `BadUnit`, at the first offset at which no unit begins; and in an object with a unit, for the first pubnames
+/// section that is not read, `BadElf` with `SectionData`, its bytes are out of range, or `BadPubnames`, they are no list
+/// of sets. `NoMemory` may come at any object.
 ///
-/// The file has fewer than 2^39 bytes. The placements ascend by object and section, their ends fit 64 bits, and
-/// those of the object name sections of its file.
+/// Requires a file of fewer than 2^39 bytes, and placements that ascend by object and section, whose ends fit 64 bits;
+/// those of the object are of sections of its file.
 pub fn scan_one_object<'a, C: ElfClass>(
     alloc: Global,
     object: usize,

@@ -11,7 +11,7 @@ use Rattle.std.proofs.lemmas.Option.{slice_get-get_or}
 use Rattle.elf_format.specs.Class.{Class}
 use Rattle.elf_format.specs.Section.{sections}
 use Rattle.elf_view.specs.Parsed.{Parsed}
-use Rattle.gdb_scan.proofs.Telling.{front}
+use Rattle.gdb_scan.proofs.Assigning.{front}
 use Rattle.gdb_index_format.specs.declared.placement.Placement.{Placement}
 use Rattle.gdb_index_format.specs.declared.placement.AddressEntry.{AddressEntry}
 use Rattle.gdb_index_format.specs.Published.{Object, units_in_objects, units_of_all}

@@ -3,7 +3,8 @@ use Rattle.std.proofs.lemmas.List.{append-nil, map_push}
 use Rattle.std.proofs.lemmas.Grind.{common_steps}
 use Rattle.std.proofs.lemmas.Result.{err_from_is_err_and}
 use Rattle.gdb_index_format.specs.Names.{IsEntries}
-use Rattle.dwarf_sections.specs.Entries.{entries_in, entry_in, seen_entry, FoundEntry}
+use Rattle.dwarf_sections.specs.Entries.{entries_in, entry_in}
+use Rattle.dwarf_sections.specs.steps.EntryParts.{seen_entry, FoundEntry}
 use Rattle.dwarf_sections.proofs.SetReading.{IsBad-weaker, none_there, sound_more, complete_more}
 use Rattle.dwarf_sections.proofs.entries.entries_of.Goals as goal
 

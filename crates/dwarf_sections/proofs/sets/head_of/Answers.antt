@@ -1,5 +1,5 @@
 use Rattle.std.proofs.Common.{◌≡◌, ◌++◌, arith, sym, subst, length}
-use Rattle.dwarf_sections.specs.Sets.{HeadAt}
+use Rattle.dwarf_sections.specs.steps.SetParts.{HeadAt}
 use Rattle.dwarf_sections.proofs.SetFinding.{no_set_body}
 use Rattle.dwarf_sections.proofs.sets.head_of.Goals as goal
 

@@ -3,26 +3,26 @@ use Rattle.std.proofs.lemmas.List.Sorted.{IsPartitionPoint-from_clause, IsPartit
 use Rattle.dwarf_sections.proofs.UnitSearching.{Parted, parted, offsets_do_not_fall, none_before, last_holds, last_does_not_hold, no_unit}
 use Rattle.dwarf_sections.proofs.unit_search.cu_index_for_offset.Goals as goal
 
-pub returns-then-behind-eq0 : goal.returns-then-behind-eq0
-returns-then-behind-eq0 c =
-    let behind = c.partition_point-behind.result in
-    let parts : Parted c.args.units.now c.args.offset behind = parted _ _ _ c.partition_point-behind.ensures.bound (IsPartitionPoint-from_clause (λ u. leb u.offset c.args.offset) c.args.units.now behind c.partition_point-behind.ensures.partitioned (IsPartitionedBy-leb (λ u. u.offset) c.args.units.now c.args.offset (offsets_do_not_fall _ c.requires.adjacent)) (λ a r f called. search rules)) in
-    none_before c.args.units.now c.args.offset behind parts c.if-behind-eq0.true
+pub returns-then-after-eq0 : goal.returns-then-after-eq0
+returns-then-after-eq0 c =
+    let after = c.partition_point-after.result in
+    let parts : Parted c.args.units.now c.args.offset after = parted _ _ _ c.partition_point-after.ensures.bound (IsPartitionPoint-from_clause (λ u. leb u.offset c.args.offset) c.args.units.now after c.partition_point-after.ensures.partitioned (IsPartitionedBy-leb (λ u. u.offset) c.args.units.now c.args.offset (offsets_do_not_fall _ c.requires.adjacent)) (λ a r f called. search rules)) in
+    none_before c.args.units.now c.args.offset after parts c.if-after-eq0.true
 
 pub overflow_sub-offset : goal.overflow_sub-offset
 overflow_sub-offset c =
-    let behind = c.partition_point-behind.result in
-    let parts : Parted c.args.units.now c.args.offset behind = parted _ _ _ c.partition_point-behind.ensures.bound (IsPartitionPoint-from_clause (λ u. leb u.offset c.args.offset) c.args.units.now behind c.partition_point-behind.ensures.partitioned (IsPartitionedBy-leb (λ u. u.offset) c.args.units.now c.args.offset (offsets_do_not_fall _ c.requires.adjacent)) (λ a r f called. search rules)) in
-    parts.low (behind - 1) no_unit (omega (arith, c.if-behind-eq0.false))
+    let after = c.partition_point-after.result in
+    let parts : Parted c.args.units.now c.args.offset after = parted _ _ _ c.partition_point-after.ensures.bound (IsPartitionPoint-from_clause (λ u. leb u.offset c.args.offset) c.args.units.now after c.partition_point-after.ensures.partitioned (IsPartitionedBy-leb (λ u. u.offset) c.args.units.now c.args.offset (offsets_do_not_fall _ c.requires.adjacent)) (λ a r f called. search rules)) in
+    parts.low (after - 1) no_unit (omega (arith, c.if-after-eq0.false))
 
 pub returns-then-offset-unit : goal.returns-then-offset-unit
 returns-then-offset-unit c =
-    let behind = c.partition_point-behind.result in
-    let parts : Parted c.args.units.now c.args.offset behind = parted _ _ _ c.partition_point-behind.ensures.bound (IsPartitionPoint-from_clause (λ u. leb u.offset c.args.offset) c.args.units.now behind c.partition_point-behind.ensures.partitioned (IsPartitionedBy-leb (λ u. u.offset) c.args.units.now c.args.offset (offsets_do_not_fall _ c.requires.adjacent)) (λ a r f called. search rules)) in
-    last_holds c.args.units.now c.args.offset behind (behind - 1) c.requires.adjacent parts (omega (arith, c.if-behind-eq0.false)) (omega (arith, c.if-offset-unit.true, parts.low (behind - 1) no_unit (omega (arith, c.if-behind-eq0.false))))
+    let after = c.partition_point-after.result in
+    let parts : Parted c.args.units.now c.args.offset after = parted _ _ _ c.partition_point-after.ensures.bound (IsPartitionPoint-from_clause (λ u. leb u.offset c.args.offset) c.args.units.now after c.partition_point-after.ensures.partitioned (IsPartitionedBy-leb (λ u. u.offset) c.args.units.now c.args.offset (offsets_do_not_fall _ c.requires.adjacent)) (λ a r f called. search rules)) in
+    last_holds c.args.units.now c.args.offset after (after - 1) c.requires.adjacent parts (omega (arith, c.if-after-eq0.false)) (omega (arith, c.if-offset-unit.true, parts.low (after - 1) no_unit (omega (arith, c.if-after-eq0.false))))
 
 pub returns : goal.returns
 returns c =
-    let behind = c.partition_point-behind.result in
-    let parts : Parted c.args.units.now c.args.offset behind = parted _ _ _ c.partition_point-behind.ensures.bound (IsPartitionPoint-from_clause (λ u. leb u.offset c.args.offset) c.args.units.now behind c.partition_point-behind.ensures.partitioned (IsPartitionedBy-leb (λ u. u.offset) c.args.units.now c.args.offset (offsets_do_not_fall _ c.requires.adjacent)) (λ a r f called. search rules)) in
-    last_does_not_hold c.args.units.now c.args.offset behind (behind - 1) c.requires.adjacent parts (omega (arith, c.if-behind-eq0.false)) (omega (arith, c.if-offset-unit.false, parts.low (behind - 1) no_unit (omega (arith, c.if-behind-eq0.false))))
+    let after = c.partition_point-after.result in
+    let parts : Parted c.args.units.now c.args.offset after = parted _ _ _ c.partition_point-after.ensures.bound (IsPartitionPoint-from_clause (λ u. leb u.offset c.args.offset) c.args.units.now after c.partition_point-after.ensures.partitioned (IsPartitionedBy-leb (λ u. u.offset) c.args.units.now c.args.offset (offsets_do_not_fall _ c.requires.adjacent)) (λ a r f called. search rules)) in
+    last_does_not_hold c.args.units.now c.args.offset after (after - 1) c.requires.adjacent parts (omega (arith, c.if-after-eq0.false)) (omega (arith, c.if-offset-unit.false, parts.low (after - 1) no_unit (omega (arith, c.if-after-eq0.false))))

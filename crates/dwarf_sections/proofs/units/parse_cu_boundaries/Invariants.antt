@@ -5,7 +5,7 @@ use Rattle.dwarf_sections.proofs.units.parse_cu_boundaries.Given as goal
 abbrev pub invariant-loop-at : goal.invariant-loop-at
 invariant-loop-at l = record {
   front : IsUnitFront l.bytes l.units.items;
-  place : total_length l.units.items ≡ l.at;
+  reached : total_length l.units.items ≡ l.at;
   within : l.at ≤ length l.bytes;
 }
 

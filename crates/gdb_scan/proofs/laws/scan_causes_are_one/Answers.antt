@@ -1,5 +1,5 @@
 use Rattle.gdb_scan.proofs.OneCause.{one_scan_cause}
 use Rattle.gdb_scan.proofs.laws.scan_causes_are_one.Goals as goal
 
-pub returns-clause-ensures : goal.returns-clause-ensures
-returns-clause-ensures c = one_scan_cause
+pub returns : goal.returns
+returns c = one_scan_cause

@@ -1,6 +1,6 @@
 use Rattle.std.proofs.Common.{◌∙◌, ◌++◌, [], ◌∷◌, ap, sym}
 use Rattle.gdb_scan.specs.Groups.{shown}
-use Rattle.gdb_scan.proofs.Grouping.{shown-insert, shown-set, place_of, add_list-one}
+use Rattle.gdb_scan.proofs.Grouping.{shown-insert, shown-set, index_from_some, add_list-one}
 use Rattle.gdb_scan.proofs.names.publish.Goals as goal
 
 pub returns-in_ok-insert-in-None : goal.returns-in_ok-insert-in-None
@@ -10,5 +10,5 @@ returns-in_ok-insert-in-None g c = record {
 
 pub returns-in_ok-push-in-Some : goal.returns-in_ok-push-in-Some
 returns-in_ok-push-in-Some g c = record {
-  published = shown-set c.args.names.now.entries c.args.name c.in-Some.index _ _ (c.args.value ∷ []) (place_of _ _ _ c.in-Some.ensures.index) c.index_mut.ensures.value c.in_ok-push-in-Some.ensures.items ∙ sym (add_list-one (shown c.args.names.now.entries) c.args.name.now c.args.value);
+  published = shown-set c.args.names.now.entries c.args.name c.in-Some.index _ _ (c.args.value ∷ []) (index_from_some _ _ _ c.in-Some.ensures.index) c.index_mut.ensures.value c.in_ok-push-in-Some.ensures.items ∙ sym (add_list-one (shown c.args.names.now.entries) c.args.name.now c.args.value);
 }

@@ -3,7 +3,7 @@ use Rattle.std.specs.List.{enumerate_from, filter}
 use Rattle.elf_format.specs.Section.{sections}
 use Rattle.gdb_index_format.specs.Objects.{is_pubnames_section}
 use Rattle.gdb_scan.specs.Groups.{shown}
-use Rattle.gdb_scan.specs.Gathered.{Gathers}
+use Rattle.gdb_scan.specs.steps.Gathered.{Gathers}
 use Rattle.gdb_scan.proofs.scan.gather_names.Given as goal
 
 abbrev pub invariant-loop-index : goal.invariant-loop-index

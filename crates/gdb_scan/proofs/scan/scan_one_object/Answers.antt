@@ -8,7 +8,7 @@ use Rattle.gdb_index_format.specs.Objects.{first_compressed}
 use Rattle.dwarf_sections.specs.UnitSearch.{Ascend}
 use Rattle.gdb_scan.specs.declared.error.GdbError.TheVariants.{NoMemory}
 use Rattle.gdb_scan.specs.Cause.{IsScanCause, compressed, in_units, in_names, no_memory}
-use Rattle.gdb_scan.specs.Gathered.{GathersNames}
+use Rattle.gdb_scan.specs.steps.Gathered.{GathersNames}
 use Rattle.gdb_scan.specs.Groups.{shown}
 use Rattle.gdb_scan.specs.Marks.{groups_in}
 use Rattle.gdb_scan.specs.PlacedIn.{placed_in, is_counted}

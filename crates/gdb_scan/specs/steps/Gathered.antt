@@ -1,4 +1,4 @@
--- The names that the sections of an object publish, as they are gathered.
+-- The names that the sections of an object publish, as they are gathered. Only private contracts cite this.
 use Rattle.std.specs.Prelude.{◌≡◌, ℕ, List, []}
 use Rattle.std.specs.List.{All}
 use Rattle.elf_format.specs.Class.{Class}
@@ -17,6 +17,6 @@ pub record Gathers (c : Class) (file : List ℕ) (us : List CuBoundary) (section
   pub clean : All IsClean sets
   pub published : names ≡ add_all [] (marks_of us sets)
 
--- the same of all names sections of an object
+-- the same of all pubnames sections of an object
 abbrev pub GathersNames : Class → List ℕ → List CuBoundary → List (List ℕ × List Mark) → Type 0
 GathersNames c file us names = Gathers c file us (pubnames_sections c file) names

@@ -1,4 +1,4 @@
--- What a section of sets publishes.
+-- What a pubnames section publishes. Only private contracts cite this.
 use Rattle.std.specs.Prelude.{◌≡◌, ℕ, List}
 use Rattle.std.specs.List.{All}
 use Rattle.gdb_index_format.specs.declared.unit.CuBoundary.{CuBoundary}

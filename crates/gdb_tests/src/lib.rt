@@ -1,0 +1,10 @@
+//! Tests of the crates that make an index, over their public calls: each module has a few functions with tables of
+//! cases, whose expected values were worked out by hand.
+#![tactic(auto)]
+
+#[cfg(test)]
+mod scan;
+#[cfg(test)]
+mod sets;
+#[cfg(test)]
+mod units;
