@@ -1,5 +1,5 @@
-//! The class of files whose words have 32 bits (gABI, Data Representation): its records, their sizes and
-//! the alignments of its tables.
+//! The class ELFCLASS32 (gABI, Data Representation): its records, their sizes and the alignments of its
+//! tables, in bytes.
 
 ghost use Rattle.elf_format.specs.Class.{class32};
 ghost use Rattle.std.specs.Prelude.{refl};
@@ -10,7 +10,7 @@ use crate::{
 };
 use elf_words::{ElfClass, ElfSymbol, NoteHeader};
 
-/// The class of files whose words have 32 bits.
+/// The class ELFCLASS32, whose addresses have 32 bits.
 #[derive(Clone, Copy, Debug, Default)]
 pub struct Class32;
 

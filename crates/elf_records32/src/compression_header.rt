@@ -1,4 +1,4 @@
-//! The header in front of a compressed section's bytes in a file of class 32 (gABI, Section Compression).
+//! The compression header of ELFCLASS32 (gABI, Section Compression).
 
 ghost use Rattle.std.proofs.Common.{lit<};
 ghost use Rattle.std.specs.Prelude.{◌≡◌, replicate};
@@ -6,9 +6,10 @@ ghost use Rattle.elf_format.specs.Class.{class32};
 
 use elf_words::{CompressionFields, Record, read_u32};
 
-/// The header in front of a compressed section's bytes in a file of class 32.
+/// The compression header of ELFCLASS32.
 #[derive(Clone, Copy)]
 pub struct CompressionHeader32 {
+    /// The bytes of the record, as a file holds them.
     pub bytes: [u8; 12],
 }
 
@@ -38,7 +39,7 @@ impl Record for CompressionHeader32 {
 impl Default for CompressionHeader32 {
     ghost is_default = { λ r. r.bytes ≡ replicate 12 0 };
 
-    /// The record of zero bytes.
+    /// Returns the record of zero bytes.
     fn default() -> Self {
         CompressionHeader32::zeroed()
     }

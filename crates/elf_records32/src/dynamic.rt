@@ -1,4 +1,4 @@
-//! An entry of the dynamic section in a file of class 32 (gABI, Dynamic Section).
+//! The entry of the dynamic section of ELFCLASS32 (gABI, Dynamic Section).
 
 ghost use Rattle.std.proofs.Common.{lit<};
 ghost use Rattle.std.specs.Prelude.{◌≡◌, replicate};
@@ -6,9 +6,10 @@ ghost use Rattle.elf_format.specs.Class.{class32};
 
 use elf_words::{DynFields, Record, read_u32};
 
-/// An entry of the dynamic section in a file of class 32.
+/// The entry of the dynamic section of ELFCLASS32.
 #[derive(Clone, Copy)]
 pub struct Dyn32 {
+    /// The bytes of the record, as a file holds them.
     pub bytes: [u8; 8],
 }
 
@@ -38,7 +39,7 @@ impl Record for Dyn32 {
 impl Default for Dyn32 {
     ghost is_default = { λ r. r.bytes ≡ replicate 8 0 };
 
-    /// The record of zero bytes.
+    /// Returns the record of zero bytes.
     fn default() -> Self {
         Dyn32::zeroed()
     }

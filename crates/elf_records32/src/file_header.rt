@@ -1,4 +1,4 @@
-//! The header at the front of a file of class 32 (gABI, ELF Header).
+//! The file header of ELFCLASS32 (gABI, ELF Header).
 
 ghost use Rattle.std.proofs.Common.{lit<};
 ghost use Rattle.std.specs.Prelude.{◌≡◌, replicate};
@@ -6,9 +6,10 @@ ghost use Rattle.elf_format.specs.Class.{class32};
 
 use elf_words::{FileHeaderFields, Record, read_u16, read_u32};
 
-/// The header of a file of class 32.
+/// The file header of ELFCLASS32.
 #[derive(Clone, Copy)]
 pub struct FileHeader32 {
+    /// The bytes of the record, as a file holds them.
     pub bytes: [u8; 52],
 }
 
@@ -38,7 +39,7 @@ impl Record for FileHeader32 {
 impl Default for FileHeader32 {
     ghost is_default = { λ r. r.bytes ≡ replicate 52 0 };
 
-    /// The record of zero bytes.
+    /// Returns the record of zero bytes.
     fn default() -> Self {
         FileHeader32::zeroed()
     }

@@ -1,5 +1,5 @@
-//! The records of ELF files of class 32 (System V gABI), each as the bytes that a file holds: a getter
-//! answers the number at its field's place. `Class32` names them for code that serves both classes.
+//! The records of ELFCLASS32 (System V gABI), each as the bytes that a file holds. A getter returns the number
+//! at the offset of its field. `Class32` names the records for code that is generic over the class.
 #![tactic(auto)]
 
 mod class;
@@ -21,6 +21,3 @@ pub use rela::Rela32;
 pub use relr::Relr32;
 pub use section_header::SectionHeader32;
 pub use sym::Sym32;
-
-#[cfg(test)]
-mod tests;

@@ -1,4 +1,4 @@
-//! The header of a segment in a file of class 32 (gABI, Program Header).
+//! The program header of ELFCLASS32 (gABI, Program Header).
 
 ghost use Rattle.std.proofs.Common.{lit<};
 ghost use Rattle.std.specs.Prelude.{◌≡◌, replicate};
@@ -6,9 +6,10 @@ ghost use Rattle.elf_format.specs.Class.{class32};
 
 use elf_words::{ProgramHeaderFields, Record, read_u32};
 
-/// The header of a segment in a file of class 32.
+/// The program header of ELFCLASS32.
 #[derive(Clone, Copy)]
 pub struct ProgramHeader32 {
+    /// The bytes of the record, as a file holds them.
     pub bytes: [u8; 32],
 }
 
@@ -38,7 +39,7 @@ impl Record for ProgramHeader32 {
 impl Default for ProgramHeader32 {
     ghost is_default = { λ r. r.bytes ≡ replicate 32 0 };
 
-    /// The record of zero bytes.
+    /// Returns the record of zero bytes.
     fn default() -> Self {
         ProgramHeader32::zeroed()
     }

@@ -1,4 +1,4 @@
-//! A relocation with an addend in a file of class 32 (gABI, Relocation).
+//! The RELA record of ELFCLASS32 (gABI, Relocation).
 
 ghost use Rattle.std.proofs.Common.{lit<};
 ghost use Rattle.std.specs.Prelude.{◌≡◌, replicate};
@@ -6,9 +6,10 @@ ghost use Rattle.elf_format.specs.Class.{class32};
 
 use elf_words::{Record, RelaFields, read_u32};
 
-/// A relocation with an addend in a file of class 32.
+/// The RELA record of ELFCLASS32.
 #[derive(Clone, Copy)]
 pub struct Rela32 {
+    /// The bytes of the record, as a file holds them.
     pub bytes: [u8; 12],
 }
 
@@ -38,7 +39,7 @@ impl Record for Rela32 {
 impl Default for Rela32 {
     ghost is_default = { λ r. r.bytes ≡ replicate 12 0 };
 
-    /// The record of zero bytes.
+    /// Returns the record of zero bytes.
     fn default() -> Self {
         Rela32::zeroed()
     }

@@ -1,4 +1,4 @@
-//! A word of a table of relative relocations in a file of class 32 (gABI, Relocation, RELR).
+//! The entry of a table of relative relocations of ELFCLASS32 (gABI, Relocation, RELR).
 
 ghost use Rattle.std.proofs.Common.{lit<};
 ghost use Rattle.std.specs.Prelude.{◌≡◌, replicate};
@@ -6,9 +6,10 @@ ghost use Rattle.elf_format.specs.Class.{class32};
 
 use elf_words::{Record, RelrFields, read_u32};
 
-/// A word of a table of relative relocations in a file of class 32.
+/// The entry of a table of relative relocations of ELFCLASS32.
 #[derive(Clone, Copy)]
 pub struct Relr32 {
+    /// The bytes of the record, as a file holds them.
     pub bytes: [u8; 4],
 }
 
@@ -38,7 +39,7 @@ impl Record for Relr32 {
 impl Default for Relr32 {
     ghost is_default = { λ r. r.bytes ≡ replicate 4 0 };
 
-    /// The record of zero bytes.
+    /// Returns the record of zero bytes.
     fn default() -> Self {
         Relr32::zeroed()
     }

@@ -1,4 +1,4 @@
-//! The header of a section in a file of class 32 (gABI, Sections).
+//! The section header of ELFCLASS32 (gABI, Sections).
 
 ghost use Rattle.std.proofs.Common.{lit<};
 ghost use Rattle.std.specs.Prelude.{◌≡◌, replicate};
@@ -6,9 +6,10 @@ ghost use Rattle.elf_format.specs.Class.{class32};
 
 use elf_words::{Record, SectionHeaderFields, read_u32};
 
-/// The header of a section in a file of class 32.
+/// The section header of ELFCLASS32.
 #[derive(Clone, Copy)]
 pub struct SectionHeader32 {
+    /// The bytes of the record, as a file holds them.
     pub bytes: [u8; 40],
 }
 
@@ -38,7 +39,7 @@ impl Record for SectionHeader32 {
 impl Default for SectionHeader32 {
     ghost is_default = { λ r. r.bytes ≡ replicate 40 0 };
 
-    /// The record of zero bytes.
+    /// Returns the record of zero bytes.
     fn default() -> Self {
         SectionHeader32::zeroed()
     }

@@ -1,4 +1,4 @@
-//! A symbol of a file of class 32 (gABI, Symbol Table).
+//! The symbol table entry of ELFCLASS32 (gABI, Symbol Table).
 
 ghost use Rattle.std.proofs.Common.{lit<};
 ghost use Rattle.std.specs.Prelude.{◌≡◌, replicate};
@@ -6,9 +6,10 @@ ghost use Rattle.elf_format.specs.Class.{class32};
 
 use elf_words::{Record, SymFields, read_u8, read_u16, read_u32};
 
-/// A symbol of a file of class 32.
+/// The symbol table entry of ELFCLASS32.
 #[derive(Clone, Copy)]
 pub struct Sym32 {
+    /// The bytes of the record, as a file holds them.
     pub bytes: [u8; 16],
 }
 
@@ -38,7 +39,7 @@ impl Record for Sym32 {
 impl Default for Sym32 {
     ghost is_default = { λ r. r.bytes ≡ replicate 16 0 };
 
-    /// The record of zero bytes.
+    /// Returns the record of zero bytes.
     fn default() -> Self {
         Sym32::zeroed()
     }

@@ -1,4 +1,4 @@
-//! The header in front of a compressed section's bytes in a file of class 64 (gABI, Section Compression).
+//! The compression header of ELFCLASS64 (gABI, Section Compression).
 
 ghost use Rattle.std.proofs.Common.{lit<};
 ghost use Rattle.std.specs.Prelude.{◌≡◌, replicate};
@@ -6,9 +6,10 @@ ghost use Rattle.elf_format.specs.Class.{class64};
 
 use elf_words::{CompressionFields, Record, read_u32, read_u64};
 
-/// The header in front of a compressed section's bytes in a file of class 64.
+/// The compression header of ELFCLASS64.
 #[derive(Clone, Copy)]
 pub struct CompressionHeader64 {
+    /// The bytes of the record, as a file holds them.
     pub bytes: [u8; 24],
 }
 
@@ -38,7 +39,7 @@ impl Record for CompressionHeader64 {
 impl Default for CompressionHeader64 {
     ghost is_default = { λ r. r.bytes ≡ replicate 24 0 };
 
-    /// The record of zero bytes.
+    /// Returns the record of zero bytes.
     fn default() -> Self {
         CompressionHeader64::zeroed()
     }

@@ -1,4 +1,4 @@
-//! An entry of the dynamic section in a file of class 64 (gABI, Dynamic Section).
+//! The entry of the dynamic section of ELFCLASS64 (gABI, Dynamic Section).
 
 ghost use Rattle.std.proofs.Common.{lit<};
 ghost use Rattle.std.specs.Prelude.{◌≡◌, replicate};
@@ -6,9 +6,10 @@ ghost use Rattle.elf_format.specs.Class.{class64};
 
 use elf_words::{DynFields, Record, read_u64};
 
-/// An entry of the dynamic section in a file of class 64.
+/// The entry of the dynamic section of ELFCLASS64.
 #[derive(Clone, Copy)]
 pub struct Dyn64 {
+    /// The bytes of the record, as a file holds them.
     pub bytes: [u8; 16],
 }
 
@@ -38,7 +39,7 @@ impl Record for Dyn64 {
 impl Default for Dyn64 {
     ghost is_default = { λ r. r.bytes ≡ replicate 16 0 };
 
-    /// The record of zero bytes.
+    /// Returns the record of zero bytes.
     fn default() -> Self {
         Dyn64::zeroed()
     }

@@ -1,4 +1,4 @@
-//! The header at the front of a file of class 64 (gABI, ELF Header).
+//! The file header of ELFCLASS64 (gABI, ELF Header).
 
 ghost use Rattle.std.proofs.Common.{lit<};
 ghost use Rattle.std.specs.Prelude.{◌≡◌, replicate};
@@ -6,9 +6,10 @@ ghost use Rattle.elf_format.specs.Class.{class64};
 
 use elf_words::{FileHeaderFields, Record, read_u16, read_u32, read_u64};
 
-/// The header of a file of class 64.
+/// The file header of ELFCLASS64.
 #[derive(Clone, Copy)]
 pub struct FileHeader64 {
+    /// The bytes of the record, as a file holds them.
     pub bytes: [u8; 64],
 }
 
@@ -38,7 +39,7 @@ impl Record for FileHeader64 {
 impl Default for FileHeader64 {
     ghost is_default = { λ r. r.bytes ≡ replicate 64 0 };
 
-    /// The record of zero bytes.
+    /// Returns the record of zero bytes.
     fn default() -> Self {
         FileHeader64::zeroed()
     }

@@ -1,5 +1,5 @@
-//! The records of ELF files of class 64 (System V gABI), each as the bytes that a file holds: a getter
-//! answers the number at its field's place. `Class64` names them for code that serves both classes.
+//! The records of ELFCLASS64 (System V gABI), each as the bytes that a file holds. A getter returns the number
+//! at the offset of its field. `Class64` names the records for code that is generic over the class.
 #![tactic(auto)]
 
 mod class;
@@ -21,6 +21,3 @@ pub use rela::Rela64;
 pub use relr::Relr64;
 pub use section_header::SectionHeader64;
 pub use sym::Sym64;
-
-#[cfg(test)]
-mod tests;

@@ -1,4 +1,4 @@
-//! The header of a segment in a file of class 64 (gABI, Program Header).
+//! The program header of ELFCLASS64 (gABI, Program Header).
 
 ghost use Rattle.std.proofs.Common.{lit<};
 ghost use Rattle.std.specs.Prelude.{◌≡◌, replicate};
@@ -6,9 +6,10 @@ ghost use Rattle.elf_format.specs.Class.{class64};
 
 use elf_words::{ProgramHeaderFields, Record, read_u32, read_u64};
 
-/// The header of a segment in a file of class 64.
+/// The program header of ELFCLASS64.
 #[derive(Clone, Copy)]
 pub struct ProgramHeader64 {
+    /// The bytes of the record, as a file holds them.
     pub bytes: [u8; 56],
 }
 
@@ -38,7 +39,7 @@ impl Record for ProgramHeader64 {
 impl Default for ProgramHeader64 {
     ghost is_default = { λ r. r.bytes ≡ replicate 56 0 };
 
-    /// The record of zero bytes.
+    /// Returns the record of zero bytes.
     fn default() -> Self {
         ProgramHeader64::zeroed()
     }

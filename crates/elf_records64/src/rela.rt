@@ -1,4 +1,4 @@
-//! A relocation with an addend in a file of class 64 (gABI, Relocation).
+//! The RELA record of ELFCLASS64 (gABI, Relocation).
 
 ghost use Rattle.std.proofs.Common.{lit<};
 ghost use Rattle.std.specs.Prelude.{◌≡◌, replicate};
@@ -6,9 +6,10 @@ ghost use Rattle.elf_format.specs.Class.{class64};
 
 use elf_words::{Record, RelaFields, read_u64};
 
-/// A relocation with an addend in a file of class 64.
+/// The RELA record of ELFCLASS64.
 #[derive(Clone, Copy)]
 pub struct Rela64 {
+    /// The bytes of the record, as a file holds them.
     pub bytes: [u8; 24],
 }
 
@@ -38,7 +39,7 @@ impl Record for Rela64 {
 impl Default for Rela64 {
     ghost is_default = { λ r. r.bytes ≡ replicate 24 0 };
 
-    /// The record of zero bytes.
+    /// Returns the record of zero bytes.
     fn default() -> Self {
         Rela64::zeroed()
     }

@@ -1,4 +1,4 @@
-//! The header of a section in a file of class 64 (gABI, Sections).
+//! The section header of ELFCLASS64 (gABI, Sections).
 
 ghost use Rattle.std.proofs.Common.{lit<};
 ghost use Rattle.std.specs.Prelude.{◌≡◌, replicate};
@@ -6,9 +6,10 @@ ghost use Rattle.elf_format.specs.Class.{class64};
 
 use elf_words::{Record, SectionHeaderFields, read_u32, read_u64};
 
-/// The header of a section in a file of class 64.
+/// The section header of ELFCLASS64.
 #[derive(Clone, Copy)]
 pub struct SectionHeader64 {
+    /// The bytes of the record, as a file holds them.
     pub bytes: [u8; 64],
 }
 
@@ -38,7 +39,7 @@ impl Record for SectionHeader64 {
 impl Default for SectionHeader64 {
     ghost is_default = { λ r. r.bytes ≡ replicate 64 0 };
 
-    /// The record of zero bytes.
+    /// Returns the record of zero bytes.
     fn default() -> Self {
         SectionHeader64::zeroed()
     }

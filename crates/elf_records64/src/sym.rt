@@ -1,4 +1,4 @@
-//! A symbol of a file of class 64 (gABI, Symbol Table).
+//! The symbol table entry of ELFCLASS64 (gABI, Symbol Table).
 
 ghost use Rattle.std.proofs.Common.{lit<};
 ghost use Rattle.std.specs.Prelude.{◌≡◌, replicate};
@@ -6,9 +6,10 @@ ghost use Rattle.elf_format.specs.Class.{class64};
 
 use elf_words::{Record, SymFields, read_u8, read_u16, read_u32, read_u64};
 
-/// A symbol of a file of class 64.
+/// The symbol table entry of ELFCLASS64.
 #[derive(Clone, Copy)]
 pub struct Sym64 {
+    /// The bytes of the record, as a file holds them.
     pub bytes: [u8; 24],
 }
 
@@ -38,7 +39,7 @@ impl Record for Sym64 {
 impl Default for Sym64 {
     ghost is_default = { λ r. r.bytes ≡ replicate 24 0 };
 
-    /// The record of zero bytes.
+    /// Returns the record of zero bytes.
     fn default() -> Self {
         Sym64::zeroed()
     }

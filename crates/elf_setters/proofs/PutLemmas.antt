@@ -73,11 +73,11 @@ byte_outside field value bytes i room (inl before) =
     get_or_append_left (front ++ middle) (drop (field.at + field.width) bytes) 0 i (omega (arith, front_length field value bytes room))
     ∙ get_or_append_left front middle 0 i (omega (arith, size))
     ∙ get_or-take field.at bytes i 0 before
-byte_outside field value bytes i room (inr behind) =
+byte_outside field value bytes i room (inr after) =
     let front = take field.at bytes ++ bytes_low_first 0 field.width value in
     let last = field.at + field.width in
     let back : last + (i - last) ≡ i = omega arith in
-    get_or-append_right front (drop last bytes) last i 0 (front_length field value bytes room) behind
+    get_or-append_right front (drop last bytes) last i 0 (front_length field value bytes room) after
     ∙ get_or-drop last bytes (i - last) 0
     ∙ ap (λ (j : ℕ). slice_index bytes j) back
 
@@ -92,5 +92,5 @@ get_it_with_field field value bytes room fits =
 pub get_other_with_field : (field other : Field) (value : ℕ) (bytes : List ℕ) → field.at + field.width ≤ length bytes → (other.at + other.width ≤ field.at) ⊎ (field.at + field.width ≤ other.at) → get other (with_field field value bytes) ≡ get other bytes
 get_other_with_field field other value bytes room (inl before) =
     numbers_are_same (with_field field value bytes) bytes other.at other.at other.width (λ i below. byte_outside field value bytes (other.at + i) room (inl (omega arith)))
-get_other_with_field field other value bytes room (inr behind) =
+get_other_with_field field other value bytes room (inr after) =
     numbers_are_same (with_field field value bytes) bytes other.at other.at other.width (λ i below. byte_outside field value bytes (other.at + i) room (inr (omega arith)))

@@ -1,9 +1,9 @@
-//! Setters of the header in front of a compressed section's bytes (gABI, Section Compression), for both classes.
-//! Each puts its number into its field and leaves all other bytes; where class 32 has no room for a number, the
-//! setter refuses it and nothing changes.
+//! Setters of the compression header (gABI, Section Compression), for both classes. Each sets its field and
+//! leaves all other bytes. A number that does not fit 32 bits is an error in ELFCLASS32, and the record is then
+//! unchanged. Sizes are in bytes.
 
 ghost use Rattle.std.specs.Prelude.{◌≡◌};
-ghost use Rattle.elf_format.specs.Class as places;
+ghost use Rattle.elf_format.specs.Class as fields;
 ghost use Rattle.elf_words.specs.declared.word.Field.TheVariants.{ChSize, ChAddralign};
 ghost use Rattle.elf_setters.specs.Put.{with_field, IsPut};
 
@@ -12,21 +12,21 @@ use elf_records32::CompressionHeader32;
 use elf_records64::CompressionHeader64;
 use elf_words::{CompressionFields, Field, FieldError};
 
-/// The header in front of a compressed section's bytes, which can be changed.
+/// The setters of a compression header (gABI, Section Compression).
 pub trait WritableCompressionHeader: CompressionFields {
-    /// How the bytes are compressed.
+    /// Sets `ch_type`, the compression algorithm.
     fn set_type(&mut self, value: u32)
-        ensures { Self.contents self.new ≡ with_field (places.ch_type Self.class) value (Self.contents self.old) };
+        ensures { Self.contents self.new ≡ with_field (fields.ch_type Self.class) value (Self.contents self.old) };
 
-    /// How many bytes there are without compression.
-    /// `DoesNotFit` exactly where the value is above the field's range, and then nothing changes.
+    /// Sets `ch_size`, the size of the uncompressed bytes.
+    /// `DoesNotFit` exactly where the value is above the range of the field. The record is then unchanged.
     fn set_size(&mut self, value: u64) -> Result<(), FieldError>
-        ensures { IsPut (places.ch_size Self.class) ChSize value (Self.contents self.old) (Self.contents self.new) result };
+        ensures { IsPut (fields.ch_size Self.class) ChSize value (Self.contents self.old) (Self.contents self.new) result };
 
-    /// Their alignment without compression.
-    /// `DoesNotFit` exactly where the value is above the field's range, and then nothing changes.
+    /// Sets `ch_addralign`, the alignment of the uncompressed bytes.
+    /// `DoesNotFit` exactly where the value is above the range of the field. The record is then unchanged.
     fn set_alignment(&mut self, value: u64) -> Result<(), FieldError>
-        ensures { IsPut (places.ch_addralign Self.class) ChAddralign value (Self.contents self.old) (Self.contents self.new) result };
+        ensures { IsPut (fields.ch_addralign Self.class) ChAddralign value (Self.contents self.old) (Self.contents self.new) result };
 }
 
 impl WritableCompressionHeader for CompressionHeader64 {

@@ -1,8 +1,8 @@
-//! Setters of an entry of the dynamic section (gABI, Dynamic Section), for both classes. Each puts its number into
-//! its field, a tag in two's complement, and leaves all other bytes; where class 32 has no room for a number, the
-//! setter refuses it and nothing changes.
+//! Setters of an entry of the dynamic section (gABI, Dynamic Section), for both classes. Each sets its field, a
+//! tag in two's complement, and leaves all other bytes. A number that does not fit 32 bits is an error in
+//! ELFCLASS32, and the record is then unchanged.
 
-ghost use Rattle.elf_format.specs.Class as places;
+ghost use Rattle.elf_format.specs.Class as fields;
 ghost use Rattle.elf_words.specs.declared.word.Field.TheVariants.{DTag, DVal};
 ghost use Rattle.elf_setters.specs.Put.{IsPut, IsSignedPut};
 
@@ -11,18 +11,18 @@ use elf_records32::Dyn32;
 use elf_records64::Dyn64;
 use elf_words::{DynFields, Field, FieldError};
 
-/// An entry of the dynamic section, which can be changed.
+/// The setters of an entry of the dynamic section (gABI, Dynamic Section).
 pub trait WritableDynamicEntry: DynFields {
-    /// What the entry says; 0 ends the list.
-    /// `DoesNotFit` or `Negative` exactly where the value is above or below the field's range, and then nothing
-    /// changes.
+    /// Sets `d_tag`, the meaning of the entry. 0 ends the list.
+    /// `DoesNotFit` or `Negative` exactly where the value is above or below the range of the field. The record is
+    /// then unchanged.
     fn set_tag(&mut self, value: i64) -> Result<(), FieldError>
-        ensures { IsSignedPut Self.class (places.d_tag Self.class) DTag value (Self.contents self.old) (Self.contents self.new) result };
+        ensures { IsSignedPut Self.class (fields.d_tag Self.class) DTag value (Self.contents self.old) (Self.contents self.new) result };
 
-    /// The entry's number or address.
-    /// `DoesNotFit` exactly where the value is above the field's range, and then nothing changes.
+    /// Sets `d_val` or `d_ptr`, the number or address of the entry.
+    /// `DoesNotFit` exactly where the value is above the range of the field. The record is then unchanged.
     fn set_value(&mut self, value: u64) -> Result<(), FieldError>
-        ensures { IsPut (places.d_value Self.class) DVal value (Self.contents self.old) (Self.contents self.new) result };
+        ensures { IsPut (fields.d_value Self.class) DVal value (Self.contents self.old) (Self.contents self.new) result };
 }
 
 impl WritableDynamicEntry for Dyn64 {

@@ -1,10 +1,10 @@
-//! Setters of the header at the front of a file (gABI, ELF Header), for both classes. Each puts its number into
-//! its field and leaves all other bytes; where class 32 has no room for a number, the setter refuses it and
-//! nothing changes. Places and sizes count bytes.
+//! Setters of the file header (gABI, ELF Header), for both classes. Each sets its field and leaves all other
+//! bytes. A number that does not fit 32 bits is an error in ELFCLASS32, and the record is then unchanged. Offsets
+//! and sizes are in bytes.
 
 ghost use Rattle.std.specs.Prelude.{◌≡◌, ℕ, ◌++◌, drop, refl};
 ghost use Rattle.elf_format.specs.Class.{class_byte};
-ghost use Rattle.elf_format.specs.Class as places;
+ghost use Rattle.elf_format.specs.Class as fields;
 ghost use Rattle.elf_words.specs.declared.word.Field.TheVariants.{EEntry, EPhoff, EShoff};
 ghost use Rattle.elf_setters.specs.Put.{with_field, IsPut};
 
@@ -13,71 +13,72 @@ use elf_records32::FileHeader32;
 use elf_records64::FileHeader64;
 use elf_words::{Field, FieldError, FileHeaderFields};
 
-/// The header of a file, which can be changed.
+/// The setters of a file header (gABI, ELF Header).
 pub trait WritableFileHeader: FileHeaderFields {
     ghost CLASS: { ℕ };
 
-    /// The byte of the identification that names the class: 1 is 32 bit, 2 is 64 bit.
+    /// The byte of `e_ident` that names the class: 1 is ELFCLASS32, 2 is ELFCLASS64.
     const CLASS: u8;
 
-    /// The identification: the first 16 bytes.
+    /// Sets `e_ident`, the first 16 bytes.
     fn set_ident(&mut self, value: &[u8; 16])
         ensures { Self.contents self.new ≡ value.now ++ drop 16 (Self.contents self.old) };
 
-    /// What kind of file it is: 1 is relocatable, 3 is shared.
+    /// Sets `e_type`: 1 is a relocatable file, 3 a shared object.
     fn set_type(&mut self, value: u16)
-        ensures { Self.contents self.new ≡ with_field (places.e_type Self.class) value (Self.contents self.old) };
+        ensures { Self.contents self.new ≡ with_field (fields.e_type Self.class) value (Self.contents self.old) };
 
-    /// The number of the machine whose code the file holds.
+    /// Sets `e_machine`, the number of the machine.
     fn set_machine(&mut self, value: u16)
-        ensures { Self.contents self.new ≡ with_field (places.e_machine Self.class) value (Self.contents self.old) };
+        ensures { Self.contents self.new ≡ with_field (fields.e_machine Self.class) value (Self.contents self.old) };
 
-    /// The version of the format.
+    /// Sets `e_version`, the version of the format.
     fn set_version(&mut self, value: u32)
-        ensures { Self.contents self.new ≡ with_field (places.e_version Self.class) value (Self.contents self.old) };
+        ensures { Self.contents self.new ≡ with_field (fields.e_version Self.class) value (Self.contents self.old) };
 
-    /// The address at which the program starts, 0 for none.
-    /// `DoesNotFit` exactly where the value is above the field's range, and then nothing changes.
+    /// Sets `e_entry`, the address at which the program starts, 0 for none.
+    /// `DoesNotFit` exactly where the value is above the range of the field. The record is then unchanged.
     fn set_entry(&mut self, value: u64) -> Result<(), FieldError>
-        ensures { IsPut (places.e_entry Self.class) EEntry value (Self.contents self.old) (Self.contents self.new) result };
+        ensures { IsPut (fields.e_entry Self.class) EEntry value (Self.contents self.old) (Self.contents self.new) result };
 
-    /// Where the table of program headers begins, 0 for none.
-    /// `DoesNotFit` exactly where the value is above the field's range, and then nothing changes.
+    /// Sets `e_phoff`, the offset of the program header table, 0 for none.
+    /// `DoesNotFit` exactly where the value is above the range of the field. The record is then unchanged.
     fn set_program_header_offset(&mut self, value: u64) -> Result<(), FieldError>
-        ensures { IsPut (places.e_phoff Self.class) EPhoff value (Self.contents self.old) (Self.contents self.new) result };
+        ensures { IsPut (fields.e_phoff Self.class) EPhoff value (Self.contents self.old) (Self.contents self.new) result };
 
-    /// Where the table of section headers begins, 0 for none.
-    /// `DoesNotFit` exactly where the value is above the field's range, and then nothing changes.
+    /// Sets `e_shoff`, the offset of the section header table, 0 for none.
+    /// `DoesNotFit` exactly where the value is above the range of the field. The record is then unchanged.
     fn set_section_header_offset(&mut self, value: u64) -> Result<(), FieldError>
-        ensures { IsPut (places.e_shoff Self.class) EShoff value (Self.contents self.old) (Self.contents self.new) result };
+        ensures { IsPut (fields.e_shoff Self.class) EShoff value (Self.contents self.old) (Self.contents self.new) result };
 
-    /// Flags of the machine.
+    /// Sets `e_flags`, the flags of the machine.
     fn set_flags(&mut self, value: u32)
-        ensures { Self.contents self.new ≡ with_field (places.e_flags Self.class) value (Self.contents self.old) };
+        ensures { Self.contents self.new ≡ with_field (fields.e_flags Self.class) value (Self.contents self.old) };
 
-    /// The size of this header.
+    /// Sets `e_ehsize`, the size of the file header.
     fn set_header_size(&mut self, value: u16)
-        ensures { Self.contents self.new ≡ with_field (places.e_ehsize Self.class) value (Self.contents self.old) };
+        ensures { Self.contents self.new ≡ with_field (fields.e_ehsize Self.class) value (Self.contents self.old) };
 
-    /// The size of a program header.
+    /// Sets `e_phentsize`, the size of a program header.
     fn set_program_header_entry_size(&mut self, value: u16)
-        ensures { Self.contents self.new ≡ with_field (places.e_phentsize Self.class) value (Self.contents self.old) };
+        ensures { Self.contents self.new ≡ with_field (fields.e_phentsize Self.class) value (Self.contents self.old) };
 
-    /// How many program headers there are.
+    /// Sets `e_phnum`, the number of program headers.
     fn set_program_header_count(&mut self, value: u16)
-        ensures { Self.contents self.new ≡ with_field (places.e_phnum Self.class) value (Self.contents self.old) };
+        ensures { Self.contents self.new ≡ with_field (fields.e_phnum Self.class) value (Self.contents self.old) };
 
-    /// The size of a section header.
+    /// Sets `e_shentsize`, the size of a section header.
     fn set_section_header_entry_size(&mut self, value: u16)
-        ensures { Self.contents self.new ≡ with_field (places.e_shentsize Self.class) value (Self.contents self.old) };
+        ensures { Self.contents self.new ≡ with_field (fields.e_shentsize Self.class) value (Self.contents self.old) };
 
-    /// How many section headers there are; 0 where section 0's size says it.
+    /// Sets `e_shnum`, the number of section headers. 0 where `sh_size` of section 0 has the number.
     fn set_section_header_count(&mut self, value: u16)
-        ensures { Self.contents self.new ≡ with_field (places.e_shnum Self.class) value (Self.contents self.old) };
+        ensures { Self.contents self.new ≡ with_field (fields.e_shnum Self.class) value (Self.contents self.old) };
 
-    /// The section that holds the names of sections, 0 for none; 0xffff where section 0's link says it.
+    /// Sets `e_shstrndx`, the index of the section that holds the section names, 0 for none. 0xffff where `sh_link`
+    /// of section 0 has the index.
     fn set_section_name_table_index(&mut self, value: u16)
-        ensures { Self.contents self.new ≡ with_field (places.e_shstrndx Self.class) value (Self.contents self.old) };
+        ensures { Self.contents self.new ≡ with_field (fields.e_shstrndx Self.class) value (Self.contents self.old) };
 
     ghost class_byte_is: { CLASS ≡ class_byte Self.class };
 }

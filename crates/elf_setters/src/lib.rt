@@ -1,6 +1,6 @@
-//! Setters of the records of ELF files of both classes (System V gABI), one trait a record. A setter puts a
-//! number into its field, where its getter reads it, and changes nothing else; one that refuses changes
-//! nothing at all. In class 64 no setter refuses.
+//! Setters of the ELF records of both classes (System V gABI), one trait for each record. A setter sets its field,
+//! where its getter reads it again, and changes nothing else. After an error nothing is changed. In ELFCLASS64 no
+//! setter fails.
 #![tactic(auto)]
 
 mod compression_header;
@@ -20,7 +20,7 @@ pub use dynamic::WritableDynamicEntry;
 pub use elf_words::{Field, FieldError};
 pub use file_header::WritableFileHeader;
 pub use laws::{
-    class_64_refuses_nothing, halves_of_info_are_read_again, nothing_else_changes,
+    elfclass64_fields_hold_64_bits, info_is_read_again, nothing_else_changes,
     numbers_are_read_again, signed_numbers_are_read_again,
 };
 pub use note_header::WritableNoteHeader;
@@ -29,6 +29,3 @@ pub use rela::WritableRela;
 pub use relr::WritableRelr;
 pub use section_header::WritableSectionHeader;
 pub use symbol::WritableSymbol;
-
-#[cfg(test)]
-mod tests;

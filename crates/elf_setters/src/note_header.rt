@@ -1,26 +1,26 @@
-//! Setters of the header of a note (gABI, Note Section), which has one form in both classes. Each puts its number
-//! into its field and leaves all other bytes. Sizes count bytes.
+//! Setters of the header of a note (gABI, Note Section), which has the same form in both classes. Each sets its
+//! field and leaves all other bytes. Sizes are in bytes.
 
 ghost use Rattle.std.specs.Prelude.{◌≡◌};
-ghost use Rattle.elf_format.specs.Table as places;
+ghost use Rattle.elf_format.specs.Table as fields;
 ghost use Rattle.elf_setters.specs.Put.{with_field};
 
 use crate::put::put_u32;
 use elf_words::{NoteHeader, Record};
 
-/// The header of a note, which can be changed.
+/// The setters of the header of a note (gABI, Note Section).
 pub trait WritableNoteHeader: Record {
-    /// How many bytes the note's name has.
+    /// Sets `n_namesz`, the size of the name in bytes.
     fn set_name_size(&mut self, value: u32)
-        ensures { Self.contents self.new ≡ with_field places.n_namesz value (Self.contents self.old) };
+        ensures { Self.contents self.new ≡ with_field fields.n_namesz value (Self.contents self.old) };
 
-    /// How many bytes the note's description has.
+    /// Sets `n_descsz`, the size of the descriptor in bytes.
     fn set_descriptor_size(&mut self, value: u32)
-        ensures { Self.contents self.new ≡ with_field places.n_descsz value (Self.contents self.old) };
+        ensures { Self.contents self.new ≡ with_field fields.n_descsz value (Self.contents self.old) };
 
-    /// What the description says, by the note's name.
+    /// Sets `n_type`, the type of the descriptor.
     fn set_type(&mut self, value: u32)
-        ensures { Self.contents self.new ≡ with_field places.n_type value (Self.contents self.old) };
+        ensures { Self.contents self.new ≡ with_field fields.n_type value (Self.contents self.old) };
 }
 
 impl WritableNoteHeader for NoteHeader {

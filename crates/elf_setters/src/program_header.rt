@@ -1,9 +1,9 @@
-//! Setters of the header of a segment (gABI, Program Header), for both classes. Each puts its number into its
-//! field and leaves all other bytes; where class 32 has no room for a number, the setter refuses it and nothing
-//! changes. Places and sizes count bytes.
+//! Setters of the program header (gABI, Program Header), for both classes. Each sets its field and leaves all
+//! other bytes. A number that does not fit 32 bits is an error in ELFCLASS32, and the record is then unchanged.
+//! Offsets and sizes are in bytes.
 
 ghost use Rattle.std.specs.Prelude.{◌≡◌};
-ghost use Rattle.elf_format.specs.Class as places;
+ghost use Rattle.elf_format.specs.Class as fields;
 ghost use Rattle.elf_words.specs.declared.word.Field.TheVariants.{POffset, PVaddr, PPaddr, PFilesz, PMemsz, PAlign};
 ghost use Rattle.elf_setters.specs.Put.{with_field, IsPut};
 
@@ -12,45 +12,45 @@ use elf_records32::ProgramHeader32;
 use elf_records64::ProgramHeader64;
 use elf_words::{Field, FieldError, ProgramHeaderFields};
 
-/// The header of a segment, which can be changed.
+/// The setters of a program header (gABI, Program Header).
 pub trait WritableProgramHeader: ProgramHeaderFields {
-    /// What the segment is for.
+    /// Sets `p_type`, the type of the segment.
     fn set_type(&mut self, value: u32)
-        ensures { Self.contents self.new ≡ with_field (places.p_type Self.class) value (Self.contents self.old) };
+        ensures { Self.contents self.new ≡ with_field (fields.p_type Self.class) value (Self.contents self.old) };
 
-    /// The segment's flags.
+    /// Sets `p_flags`, the flags of the segment.
     fn set_flags(&mut self, value: u32)
-        ensures { Self.contents self.new ≡ with_field (places.p_flags Self.class) value (Self.contents self.old) };
+        ensures { Self.contents self.new ≡ with_field (fields.p_flags Self.class) value (Self.contents self.old) };
 
-    /// Where its bytes begin in the file.
-    /// `DoesNotFit` exactly where the value is above the field's range, and then nothing changes.
+    /// Sets `p_offset`, the offset of the segment in the file.
+    /// `DoesNotFit` exactly where the value is above the range of the field. The record is then unchanged.
     fn set_offset(&mut self, value: u64) -> Result<(), FieldError>
-        ensures { IsPut (places.p_offset Self.class) POffset value (Self.contents self.old) (Self.contents self.new) result };
+        ensures { IsPut (fields.p_offset Self.class) POffset value (Self.contents self.old) (Self.contents self.new) result };
 
-    /// Its address in a program's memory.
-    /// `DoesNotFit` exactly where the value is above the field's range, and then nothing changes.
+    /// Sets `p_vaddr`, the address of the segment in memory.
+    /// `DoesNotFit` exactly where the value is above the range of the field. The record is then unchanged.
     fn set_virtual_address(&mut self, value: u64) -> Result<(), FieldError>
-        ensures { IsPut (places.p_vaddr Self.class) PVaddr value (Self.contents self.old) (Self.contents self.new) result };
+        ensures { IsPut (fields.p_vaddr Self.class) PVaddr value (Self.contents self.old) (Self.contents self.new) result };
 
-    /// Its physical address, where that counts.
-    /// `DoesNotFit` exactly where the value is above the field's range, and then nothing changes.
+    /// Sets `p_paddr`, the physical address of the segment, where that is relevant.
+    /// `DoesNotFit` exactly where the value is above the range of the field. The record is then unchanged.
     fn set_physical_address(&mut self, value: u64) -> Result<(), FieldError>
-        ensures { IsPut (places.p_paddr Self.class) PPaddr value (Self.contents self.old) (Self.contents self.new) result };
+        ensures { IsPut (fields.p_paddr Self.class) PPaddr value (Self.contents self.old) (Self.contents self.new) result };
 
-    /// How many bytes it has in the file.
-    /// `DoesNotFit` exactly where the value is above the field's range, and then nothing changes.
+    /// Sets `p_filesz`, the size of the segment in the file.
+    /// `DoesNotFit` exactly where the value is above the range of the field. The record is then unchanged.
     fn set_file_size(&mut self, value: u64) -> Result<(), FieldError>
-        ensures { IsPut (places.p_filesz Self.class) PFilesz value (Self.contents self.old) (Self.contents self.new) result };
+        ensures { IsPut (fields.p_filesz Self.class) PFilesz value (Self.contents self.old) (Self.contents self.new) result };
 
-    /// How many bytes it has in memory.
-    /// `DoesNotFit` exactly where the value is above the field's range, and then nothing changes.
+    /// Sets `p_memsz`, the size of the segment in memory.
+    /// `DoesNotFit` exactly where the value is above the range of the field. The record is then unchanged.
     fn set_memory_size(&mut self, value: u64) -> Result<(), FieldError>
-        ensures { IsPut (places.p_memsz Self.class) PMemsz value (Self.contents self.old) (Self.contents self.new) result };
+        ensures { IsPut (fields.p_memsz Self.class) PMemsz value (Self.contents self.old) (Self.contents self.new) result };
 
-    /// The alignment of its address: 0 and 1 ask for none.
-    /// `DoesNotFit` exactly where the value is above the field's range, and then nothing changes.
+    /// Sets `p_align`, the alignment of the segment. 0 and 1 mean none.
+    /// `DoesNotFit` exactly where the value is above the range of the field. The record is then unchanged.
     fn set_alignment(&mut self, value: u64) -> Result<(), FieldError>
-        ensures { IsPut (places.p_align Self.class) PAlign value (Self.contents self.old) (Self.contents self.new) result };
+        ensures { IsPut (fields.p_align Self.class) PAlign value (Self.contents self.old) (Self.contents self.new) result };
 }
 
 impl WritableProgramHeader for ProgramHeader64 {

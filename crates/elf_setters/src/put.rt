@@ -1,5 +1,5 @@
-//! Numbers put at a place of a record's bytes, the lowest byte first (gABI, Data Representation), and the
-//! refusal of those that a word of class 32 does not hold. A refusal comes before anything is written.
+//! Writing a little-endian number at an offset of a record (gABI, Data Representation), and the errors for
+//! numbers that do not fit 32 bits. An error comes before anything is written.
 
 ghost use Rattle.std.specs.Prelude.{◌≡◌, ◌+◌, ◌≤◌, length};
 ghost use Rattle.elf_format.specs.Bytes.{field_at};
@@ -11,7 +11,7 @@ ghost use Rattle.elf_setters.specs.Put.{with_field, IsPut, IsSignedPut, IsOutsid
 
 use elf_words::{Field, FieldError};
 
-/// Puts one byte at a place.
+/// Writes a byte at an offset.
 #[tactic(auto, unfolding(crate::specs::Put::with_field))]
 pub(crate) fn put_u8(bytes: &mut [u8], at: usize, value: u8)
     requires { at + 1 ≤ length bytes.old }
@@ -20,7 +20,7 @@ pub(crate) fn put_u8(bytes: &mut [u8], at: usize, value: u8)
     bytes[at..at + 1].copy_from_slice(&value.to_le_bytes());
 }
 
-/// Puts a number into the two bytes from a place on.
+/// Writes a number into the two bytes at an offset.
 #[tactic(auto, unfolding(crate::specs::Put::with_field))]
 pub(crate) fn put_u16(bytes: &mut [u8], at: usize, value: u16)
     requires { at + 2 ≤ length bytes.old }
@@ -29,7 +29,7 @@ pub(crate) fn put_u16(bytes: &mut [u8], at: usize, value: u16)
     bytes[at..at + 2].copy_from_slice(&value.to_le_bytes());
 }
 
-/// Puts a number into the four bytes from a place on.
+/// Writes a number into the four bytes at an offset.
 #[tactic(auto, unfolding(crate::specs::Put::with_field))]
 pub(crate) fn put_u32(bytes: &mut [u8], at: usize, value: u32)
     requires { at + 4 ≤ length bytes.old }
@@ -38,7 +38,7 @@ pub(crate) fn put_u32(bytes: &mut [u8], at: usize, value: u32)
     bytes[at..at + 4].copy_from_slice(&value.to_le_bytes());
 }
 
-/// Puts a number into the eight bytes from a place on.
+/// Writes a number into the eight bytes at an offset.
 #[tactic(auto, unfolding(crate::specs::Put::with_field))]
 pub(crate) fn put_u64(bytes: &mut [u8], at: usize, value: u64)
     requires { at + 8 ≤ length bytes.old }
@@ -47,7 +47,7 @@ pub(crate) fn put_u64(bytes: &mut [u8], at: usize, value: u64)
     bytes[at..at + 8].copy_from_slice(&value.to_le_bytes());
 }
 
-/// Puts a number into a word of class 32, unless it is above all that the word holds.
+/// Writes a number into the four bytes at an offset. Where it does not fit, nothing is written.
 pub(crate) fn put_word(
     bytes: &mut [u8],
     at: usize,
@@ -64,7 +64,7 @@ pub(crate) fn put_word(
     Ok(())
 }
 
-/// Puts a signed number into a word of class 32, unless it is above or below all that the word holds.
+/// Writes a signed number into the four bytes at an offset. Where it does not fit, nothing is written.
 pub(crate) fn put_signed_word(
     bytes: &mut [u8],
     at: usize,
@@ -81,8 +81,8 @@ pub(crate) fn put_signed_word(
     Ok(())
 }
 
-/// The refusal of a half of a relocation's info.
-pub(crate) fn refusal(field: Field, half: u32) -> FieldError
+/// Returns the error for a part of `r_info` that is above its range.
+pub(crate) fn does_not_fit(field: Field, half: u32) -> FieldError
     ensures { result ≡ DoesNotFit field half }
 {
     FieldError::DoesNotFit {
@@ -91,7 +91,7 @@ pub(crate) fn refusal(field: Field, half: u32) -> FieldError
     }
 }
 
-/// The refusal of a signed number that a word of class 32 does not hold.
+/// Returns the error for a signed number that does not fit 32 bits.
 fn outside(field: Field, value: i64) -> FieldError
     requires { ¬ FitsSigned w32 value }
     ensures { IsOutside (field_at 0 4) field value result }

@@ -1,7 +1,8 @@
-//! The setter of a word of a table of relative relocations (gABI, Relocation, RELR), for both classes. Where class
-//! 32 has no room for a number, the setter refuses it and nothing changes. The word is the whole record.
+//! The setter of an entry of a table of relative relocations (gABI, Relocation, RELR), for both classes. The field
+//! is the whole record. A number that does not fit 32 bits is an error in ELFCLASS32, and the record is then
+//! unchanged.
 
-ghost use Rattle.elf_format.specs.Class as places;
+ghost use Rattle.elf_format.specs.Class as fields;
 ghost use Rattle.elf_words.specs.declared.word.Field.TheVariants.{Relr};
 ghost use Rattle.elf_setters.specs.Put.{IsPut};
 
@@ -10,12 +11,12 @@ use elf_records32::Relr32;
 use elf_records64::Relr64;
 use elf_words::{Field, FieldError, RelrFields};
 
-/// A word of a table of relative relocations, which can be changed.
+/// The setter of an entry of a table of relative relocations (gABI, Relocation, RELR).
 pub trait WritableRelr: RelrFields {
-    /// An address, where it is even, else a bit for each word after the last address.
-    /// `DoesNotFit` exactly where the value is above the field's range, and then nothing changes.
+    /// Sets the entry: an address where it is even, else a bitmap of the addresses after the last one.
+    /// `DoesNotFit` exactly where the value is above the range of the field. The record is then unchanged.
     fn set_value(&mut self, value: u64) -> Result<(), FieldError>
-        ensures { IsPut (places.r_value Self.class) Relr value (Self.contents self.old) (Self.contents self.new) result };
+        ensures { IsPut (fields.r_value Self.class) Relr value (Self.contents self.old) (Self.contents self.new) result };
 }
 
 impl WritableRelr for Relr64 {

@@ -1,9 +1,9 @@
-//! Setters of the header of a section (gABI, Sections), for both classes. Each puts its number into its field and
-//! leaves all other bytes; where class 32 has no room for a number, the setter refuses it and nothing changes.
-//! Places and sizes count bytes.
+//! Setters of the section header (gABI, Sections), for both classes. Each sets its field and leaves all other
+//! bytes. A number that does not fit 32 bits is an error in ELFCLASS32, and the record is then unchanged. Offsets
+//! and sizes are in bytes.
 
 ghost use Rattle.std.specs.Prelude.{◌≡◌};
-ghost use Rattle.elf_format.specs.Class as places;
+ghost use Rattle.elf_format.specs.Class as fields;
 ghost use Rattle.elf_words.specs.declared.word.Field.TheVariants.{ShFlags, ShAddr, ShOffset, ShSize, ShAddralign, ShEntsize};
 ghost use Rattle.elf_setters.specs.Put.{with_field, IsPut};
 
@@ -12,53 +12,53 @@ use elf_records32::SectionHeader32;
 use elf_records64::SectionHeader64;
 use elf_words::{Field, FieldError, SectionFlags, SectionHeaderFields, SectionType};
 
-/// The header of a section, which can be changed.
+/// The setters of a section header (gABI, Sections).
 pub trait WritableSectionHeader: SectionHeaderFields {
-    /// Where its name begins in the section that holds the names of sections.
+    /// Sets `sh_name`, the offset of the name in the section that holds the section names.
     fn set_name(&mut self, value: u32)
-        ensures { Self.contents self.new ≡ with_field (places.sh_name Self.class) value (Self.contents self.old) };
+        ensures { Self.contents self.new ≡ with_field (fields.sh_name Self.class) value (Self.contents self.old) };
 
-    /// What the section holds.
+    /// Sets `sh_type`, the type of the section.
     fn set_type(&mut self, value: SectionType)
-        ensures { Self.contents self.new ≡ with_field (places.sh_type Self.class) value.0 (Self.contents self.old) };
+        ensures { Self.contents self.new ≡ with_field (fields.sh_type Self.class) value.0 (Self.contents self.old) };
 
-    /// The section's flags.
-    /// `DoesNotFit` exactly where the value is above the field's range, and then nothing changes.
+    /// Sets `sh_flags`, the flags of the section.
+    /// `DoesNotFit` exactly where the value is above the range of the field. The record is then unchanged.
     fn set_flags(&mut self, value: SectionFlags) -> Result<(), FieldError>
-        ensures { IsPut (places.sh_flags Self.class) ShFlags value.0 (Self.contents self.old) (Self.contents self.new) result };
+        ensures { IsPut (fields.sh_flags Self.class) ShFlags value.0 (Self.contents self.old) (Self.contents self.new) result };
 
-    /// Its address in a program's memory, 0 for none.
-    /// `DoesNotFit` exactly where the value is above the field's range, and then nothing changes.
+    /// Sets `sh_addr`, the address of the section in memory, 0 for none.
+    /// `DoesNotFit` exactly where the value is above the range of the field. The record is then unchanged.
     fn set_address(&mut self, value: u64) -> Result<(), FieldError>
-        ensures { IsPut (places.sh_addr Self.class) ShAddr value (Self.contents self.old) (Self.contents self.new) result };
+        ensures { IsPut (fields.sh_addr Self.class) ShAddr value (Self.contents self.old) (Self.contents self.new) result };
 
-    /// Where its bytes begin in the file.
-    /// `DoesNotFit` exactly where the value is above the field's range, and then nothing changes.
+    /// Sets `sh_offset`, the offset of the section in the file.
+    /// `DoesNotFit` exactly where the value is above the range of the field. The record is then unchanged.
     fn set_offset(&mut self, value: u64) -> Result<(), FieldError>
-        ensures { IsPut (places.sh_offset Self.class) ShOffset value (Self.contents self.old) (Self.contents self.new) result };
+        ensures { IsPut (fields.sh_offset Self.class) ShOffset value (Self.contents self.old) (Self.contents self.new) result };
 
-    /// How many bytes it has.
-    /// `DoesNotFit` exactly where the value is above the field's range, and then nothing changes.
+    /// Sets `sh_size`, the size of the section.
+    /// `DoesNotFit` exactly where the value is above the range of the field. The record is then unchanged.
     fn set_size(&mut self, value: u64) -> Result<(), FieldError>
-        ensures { IsPut (places.sh_size Self.class) ShSize value (Self.contents self.old) (Self.contents self.new) result };
+        ensures { IsPut (fields.sh_size Self.class) ShSize value (Self.contents self.old) (Self.contents self.new) result };
 
-    /// The index of a section that belongs to it, by its type.
+    /// Sets `sh_link`, a section index. Its meaning depends on `sh_type`.
     fn set_link(&mut self, value: u32)
-        ensures { Self.contents self.new ≡ with_field (places.sh_link Self.class) value (Self.contents self.old) };
+        ensures { Self.contents self.new ≡ with_field (fields.sh_link Self.class) value (Self.contents self.old) };
 
-    /// A further number, by its type.
+    /// Sets `sh_info`, a number. Its meaning depends on `sh_type`.
     fn set_info(&mut self, value: u32)
-        ensures { Self.contents self.new ≡ with_field (places.sh_info Self.class) value (Self.contents self.old) };
+        ensures { Self.contents self.new ≡ with_field (fields.sh_info Self.class) value (Self.contents self.old) };
 
-    /// The alignment of its address: 0 and 1 ask for none.
-    /// `DoesNotFit` exactly where the value is above the field's range, and then nothing changes.
+    /// Sets `sh_addralign`, the alignment of the section. 0 and 1 mean none.
+    /// `DoesNotFit` exactly where the value is above the range of the field. The record is then unchanged.
     fn set_alignment(&mut self, value: u64) -> Result<(), FieldError>
-        ensures { IsPut (places.sh_addralign Self.class) ShAddralign value (Self.contents self.old) (Self.contents self.new) result };
+        ensures { IsPut (fields.sh_addralign Self.class) ShAddralign value (Self.contents self.old) (Self.contents self.new) result };
 
-    /// The size of its records, 0 where it has none of one size.
-    /// `DoesNotFit` exactly where the value is above the field's range, and then nothing changes.
+    /// Sets `sh_entsize`, the size of an entry, 0 where the section has no entries of a fixed size.
+    /// `DoesNotFit` exactly where the value is above the range of the field. The record is then unchanged.
     fn set_entry_size(&mut self, value: u64) -> Result<(), FieldError>
-        ensures { IsPut (places.sh_entsize Self.class) ShEntsize value (Self.contents self.old) (Self.contents self.new) result };
+        ensures { IsPut (fields.sh_entsize Self.class) ShEntsize value (Self.contents self.old) (Self.contents self.new) result };
 }
 
 impl WritableSectionHeader for SectionHeader64 {

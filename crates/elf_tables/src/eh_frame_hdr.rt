@@ -1,22 +1,23 @@
-//! The table that finds the entries of `.eh_frame` by address (Linux Standard Base, The .eh_frame_hdr
-//! Section), in the encodings that linkers write: four bytes each, signed where they are distances.
+//! The header and the search table of `.eh_frame_hdr` (Linux Standard Base, The .eh_frame_hdr Section), in the
+//! encodings that linkers write: four bytes each, signed where they are distances.
 
 ghost use Rattle.std.proofs.Common.{lit<};
 ghost use Rattle.std.specs.Prelude.{◌≡◌, replicate};
 ghost use Rattle.std.specs.Int.{w32, cast_signed};
 ghost use Rattle.elf_format.specs.Bytes.{get};
-ghost use Rattle.elf_format.specs.Table as places;
+ghost use Rattle.elf_format.specs.Table as fields;
 
 use elf_words::{Record, read_u8, read_u32};
 
 /// The header of `.eh_frame_hdr`.
 #[derive(Clone, Copy)]
 pub struct EhFrameHdr {
+    /// The bytes of the record, as a file holds them.
     pub bytes: [u8; 12],
 }
 
 impl Record for EhFrameHdr {
-    ghost SIZE = { places.eh_frame_hdr_size };
+    ghost SIZE = { fields.eh_frame_hdr_size };
 
     ghost has_bytes = { lit< tt };
 
@@ -41,64 +42,65 @@ impl Record for EhFrameHdr {
 impl Default for EhFrameHdr {
     ghost is_default = { λ r. r.bytes ≡ replicate 12 0 };
 
-    /// The record of zero bytes.
+    /// Returns the record of zero bytes.
     fn default() -> Self {
         EhFrameHdr::zeroed()
     }
 }
 
 impl EhFrameHdr {
-    /// The version of the format: 1.
+    /// Returns the version of the format: 1.
     pub fn version(&self) -> u8
-        ensures { result ≡ get places.eh_version self.now.bytes }
+        ensures { result ≡ get fields.eh_version self.now.bytes }
     {
         read_u8(&self.bytes, 0)
     }
 
-    /// How the place of `.eh_frame` is encoded.
+    /// Returns the encoding of the pointer to `.eh_frame`.
     pub fn frame_pointer_encoding(&self) -> u8
-        ensures { result ≡ get places.eh_frame_pointer_encoding self.now.bytes }
+        ensures { result ≡ get fields.eh_frame_pointer_encoding self.now.bytes }
     {
         read_u8(&self.bytes, 1)
     }
 
-    /// How the count of entries is encoded.
+    /// Returns the encoding of the number of entries.
     pub fn count_encoding(&self) -> u8
-        ensures { result ≡ get places.eh_count_encoding self.now.bytes }
+        ensures { result ≡ get fields.eh_count_encoding self.now.bytes }
     {
         read_u8(&self.bytes, 2)
     }
 
-    /// How the entries are encoded.
+    /// Returns the encoding of the entries.
     pub fn table_encoding(&self) -> u8
-        ensures { result ≡ get places.eh_table_encoding self.now.bytes }
+        ensures { result ≡ get fields.eh_table_encoding self.now.bytes }
     {
         read_u8(&self.bytes, 3)
     }
 
-    /// How many bytes `.eh_frame` lies after this field.
+    /// Returns the address of `.eh_frame`, as a signed distance in bytes from this field.
     pub fn frame_pointer(&self) -> i32
-        ensures { result ≡ cast_signed w32 (get places.eh_frame_pointer self.now.bytes) }
+        ensures { result ≡ cast_signed w32 (get fields.eh_frame_pointer self.now.bytes) }
     {
         read_u32(&self.bytes, 4).cast_signed()
     }
 
-    /// How many entries the table has.
+    /// Returns the number of entries.
     pub fn entry_count(&self) -> u32
-        ensures { result ≡ get places.eh_entry_count self.now.bytes }
+        ensures { result ≡ get fields.eh_entry_count self.now.bytes }
     {
         read_u32(&self.bytes, 8)
     }
 }
 
-/// An entry of the table.
+/// An entry of the search table of `.eh_frame_hdr`.
 #[derive(Clone, Copy)]
 pub struct EhFrameHdrEntry {
+    /// The bytes of the record, as a file holds them.
     pub bytes: [u8; 8],
 }
 
 impl Record for EhFrameHdrEntry {
-    ghost SIZE = { places.eh_frame_hdr_entry_size };
+    ghost SIZE = { fields.eh_frame_hdr_entry_size };
 
     ghost has_bytes = { lit< tt };
 
@@ -123,23 +125,23 @@ impl Record for EhFrameHdrEntry {
 impl Default for EhFrameHdrEntry {
     ghost is_default = { λ r. r.bytes ≡ replicate 8 0 };
 
-    /// The record of zero bytes.
+    /// Returns the record of zero bytes.
     fn default() -> Self {
         EhFrameHdrEntry::zeroed()
     }
 }
 
 impl EhFrameHdrEntry {
-    /// How many bytes the code begins after the start of `.eh_frame_hdr`.
+    /// Returns the address of the code, as a signed distance in bytes from the start of `.eh_frame_hdr`.
     pub fn frame_ptr(&self) -> i32
-        ensures { result ≡ cast_signed w32 (get places.ehe_frame_ptr self.now.bytes) }
+        ensures { result ≡ cast_signed w32 (get fields.ehe_frame_ptr self.now.bytes) }
     {
         read_u32(&self.bytes, 0).cast_signed()
     }
 
-    /// How many bytes its entry of `.eh_frame` lies after the start of `.eh_frame_hdr`.
+    /// Returns the address of the FDE, as a signed distance in bytes from the start of `.eh_frame_hdr`.
     pub fn frame_info_ptr(&self) -> i32
-        ensures { result ≡ cast_signed w32 (get places.ehe_frame_info_ptr self.now.bytes) }
+        ensures { result ≡ cast_signed w32 (get fields.ehe_frame_info_ptr self.now.bytes) }
     {
         read_u32(&self.bytes, 4).cast_signed()
     }

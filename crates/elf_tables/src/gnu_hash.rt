@@ -3,18 +3,19 @@
 ghost use Rattle.std.proofs.Common.{lit<};
 ghost use Rattle.std.specs.Prelude.{◌≡◌, replicate};
 ghost use Rattle.elf_format.specs.Bytes.{get};
-ghost use Rattle.elf_format.specs.Table as places;
+ghost use Rattle.elf_format.specs.Table as fields;
 
 use elf_words::{Record, read_u32};
 
 /// The header of a GNU hash table.
 #[derive(Clone, Copy)]
 pub struct GnuHashHeader {
+    /// The bytes of the record, as a file holds them.
     pub bytes: [u8; 16],
 }
 
 impl Record for GnuHashHeader {
-    ghost SIZE = { places.gnu_hash_header_size };
+    ghost SIZE = { fields.gnu_hash_header_size };
 
     ghost has_bytes = { lit< tt };
 
@@ -39,37 +40,37 @@ impl Record for GnuHashHeader {
 impl Default for GnuHashHeader {
     ghost is_default = { λ r. r.bytes ≡ replicate 16 0 };
 
-    /// The record of zero bytes.
+    /// Returns the record of zero bytes.
     fn default() -> Self {
         GnuHashHeader::zeroed()
     }
 }
 
 impl GnuHashHeader {
-    /// How many buckets there are.
+    /// Returns the number of buckets.
     pub fn bucket_count(&self) -> u32
-        ensures { result ≡ get places.gh_bucket_count self.now.bytes }
+        ensures { result ≡ get fields.gh_bucket_count self.now.bytes }
     {
         read_u32(&self.bytes, 0)
     }
 
-    /// The index of the first symbol that the table has.
+    /// Returns the index of the first symbol in the table.
     pub fn symbol_base(&self) -> u32
-        ensures { result ≡ get places.gh_symbol_base self.now.bytes }
+        ensures { result ≡ get fields.gh_symbol_base self.now.bytes }
     {
         read_u32(&self.bytes, 4)
     }
 
-    /// How many words the filter has.
+    /// Returns the number of words of the Bloom filter.
     pub fn bloom_count(&self) -> u32
-        ensures { result ≡ get places.gh_bloom_count self.now.bytes }
+        ensures { result ≡ get fields.gh_bloom_count self.now.bytes }
     {
         read_u32(&self.bytes, 8)
     }
 
-    /// By how many bits a hash is shifted for its second bit in the filter.
+    /// Returns the shift of a hash for its second bit in the Bloom filter.
     pub fn bloom_shift(&self) -> u32
-        ensures { result ≡ get places.gh_bloom_shift self.now.bytes }
+        ensures { result ≡ get fields.gh_bloom_shift self.now.bytes }
     {
         read_u32(&self.bytes, 12)
     }

@@ -1,6 +1,6 @@
-//! Records of ELF files that have one form in both classes, each as the bytes that a file holds: versions
-//! of symbols, the GNU hash table, the tables of `.eh_frame` and program properties. A getter answers the
-//! number at its field's place.
+//! Records that have the same form in both classes, each as the bytes that a file holds: symbol versions, the
+//! GNU hash table, `.eh_frame` and `.eh_frame_hdr`, and program properties. A getter returns the number at the
+//! offset of its field.
 #![tactic(auto)]
 
 mod eh_frame_entry;
@@ -18,6 +18,3 @@ pub use property::{AArch64PAuthProperty, NoteProperty};
 pub use verdef::{Verdaux, Verdef};
 pub use verneed::{Vernaux, Verneed};
 pub use versym::Versym;
-
-#[cfg(test)]
-mod tests;

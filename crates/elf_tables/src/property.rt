@@ -4,18 +4,19 @@
 ghost use Rattle.std.proofs.Common.{lit<};
 ghost use Rattle.std.specs.Prelude.{◌≡◌, replicate};
 ghost use Rattle.elf_format.specs.Bytes.{get};
-ghost use Rattle.elf_format.specs.Table as places;
+ghost use Rattle.elf_format.specs.Table as fields;
 
 use elf_words::{Record, read_u32, read_u64};
 
 /// A program property of four bytes of data.
 #[derive(Clone, Copy)]
 pub struct NoteProperty {
+    /// The bytes of the record, as a file holds them.
     pub bytes: [u8; 12],
 }
 
 impl Record for NoteProperty {
-    ghost SIZE = { places.note_property_size };
+    ghost SIZE = { fields.note_property_size };
 
     ghost has_bytes = { lit< tt };
 
@@ -40,43 +41,44 @@ impl Record for NoteProperty {
 impl Default for NoteProperty {
     ghost is_default = { λ r. r.bytes ≡ replicate 12 0 };
 
-    /// The record of zero bytes.
+    /// Returns the record of zero bytes.
     fn default() -> Self {
         NoteProperty::zeroed()
     }
 }
 
 impl NoteProperty {
-    /// What the property says.
+    /// Returns `pr_type`, the type of the property.
     pub fn pr_type(&self) -> u32
-        ensures { result ≡ get places.pr_type self.now.bytes }
+        ensures { result ≡ get fields.pr_type self.now.bytes }
     {
         read_u32(&self.bytes, 0)
     }
 
-    /// How many bytes of data it has.
+    /// Returns `pr_datasz`, the size of the data in bytes.
     pub fn pr_datasz(&self) -> u32
-        ensures { result ≡ get places.pr_datasz self.now.bytes }
+        ensures { result ≡ get fields.pr_datasz self.now.bytes }
     {
         read_u32(&self.bytes, 4)
     }
 
-    /// Its data.
+    /// Returns the data.
     pub fn pr_data(&self) -> u32
-        ensures { result ≡ get places.pr_data self.now.bytes }
+        ensures { result ≡ get fields.pr_data self.now.bytes }
     {
         read_u32(&self.bytes, 8)
     }
 }
 
-/// The property of AArch64 pointer authentication.
+/// The program property of AArch64 pointer authentication.
 #[derive(Clone, Copy)]
 pub struct AArch64PAuthProperty {
+    /// The bytes of the record, as a file holds them.
     pub bytes: [u8; 24],
 }
 
 impl Record for AArch64PAuthProperty {
-    ghost SIZE = { places.pauth_property_size };
+    ghost SIZE = { fields.pauth_property_size };
 
     ghost has_bytes = { lit< tt };
 
@@ -101,37 +103,37 @@ impl Record for AArch64PAuthProperty {
 impl Default for AArch64PAuthProperty {
     ghost is_default = { λ r. r.bytes ≡ replicate 24 0 };
 
-    /// The record of zero bytes.
+    /// Returns the record of zero bytes.
     fn default() -> Self {
         AArch64PAuthProperty::zeroed()
     }
 }
 
 impl AArch64PAuthProperty {
-    /// What the property says.
+    /// Returns `pr_type`, the type of the property.
     pub fn pr_type(&self) -> u32
-        ensures { result ≡ get places.pr_type self.now.bytes }
+        ensures { result ≡ get fields.pr_type self.now.bytes }
     {
         read_u32(&self.bytes, 0)
     }
 
-    /// How many bytes of data it has.
+    /// Returns `pr_datasz`, the size of the data in bytes.
     pub fn pr_datasz(&self) -> u32
-        ensures { result ≡ get places.pr_datasz self.now.bytes }
+        ensures { result ≡ get fields.pr_datasz self.now.bytes }
     {
         read_u32(&self.bytes, 4)
     }
 
-    /// The number of the platform.
+    /// Returns the platform.
     pub fn platform(&self) -> u64
-        ensures { result ≡ get places.pauth_platform self.now.bytes }
+        ensures { result ≡ get fields.pauth_platform self.now.bytes }
     {
         read_u64(&self.bytes, 8)
     }
 
-    /// The version of the platform's rules.
+    /// Returns the version of the ABI of the platform.
     pub fn version(&self) -> u64
-        ensures { result ≡ get places.pauth_version self.now.bytes }
+        ensures { result ≡ get fields.pauth_version self.now.bytes }
     {
         read_u64(&self.bytes, 16)
     }

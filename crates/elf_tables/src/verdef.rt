@@ -1,21 +1,22 @@
-//! The versions that a file defines and their names (GNU symbol versioning, Version Definitions). Places of
-//! the next record and of names count bytes from the start of the record.
+//! Version definitions and their names (GNU symbol versioning, Version Definitions). An offset of another record
+//! is in bytes from the start of the record that holds it.
 
 ghost use Rattle.std.proofs.Common.{lit<};
 ghost use Rattle.std.specs.Prelude.{◌≡◌, replicate};
 ghost use Rattle.elf_format.specs.Bytes.{get};
-ghost use Rattle.elf_format.specs.Table as places;
+ghost use Rattle.elf_format.specs.Table as fields;
 
 use elf_words::{Record, read_u16, read_u32};
 
-/// A version that a file defines.
+/// A version definition (Verdef).
 #[derive(Clone, Copy)]
 pub struct Verdef {
+    /// The bytes of the record, as a file holds them.
     pub bytes: [u8; 20],
 }
 
 impl Record for Verdef {
-    ghost SIZE = { places.verdef_size };
+    ghost SIZE = { fields.verdef_size };
 
     ghost has_bytes = { lit< tt };
 
@@ -40,71 +41,72 @@ impl Record for Verdef {
 impl Default for Verdef {
     ghost is_default = { λ r. r.bytes ≡ replicate 20 0 };
 
-    /// The record of zero bytes.
+    /// Returns the record of zero bytes.
     fn default() -> Self {
         Verdef::zeroed()
     }
 }
 
 impl Verdef {
-    /// The version of the format: 1.
+    /// Returns the version of the format: 1.
     pub fn vd_version(&self) -> u16
-        ensures { result ≡ get places.vd_version self.now.bytes }
+        ensures { result ≡ get fields.vd_version self.now.bytes }
     {
         read_u16(&self.bytes, 0)
     }
 
-    /// Flags: 1 is the version of the file itself, 2 is weak.
+    /// Returns `vd_flags`: 1 is the version of the file itself, 2 is weak.
     pub fn vd_flags(&self) -> u16
-        ensures { result ≡ get places.vd_flags self.now.bytes }
+        ensures { result ≡ get fields.vd_flags self.now.bytes }
     {
         read_u16(&self.bytes, 2)
     }
 
-    /// The index by which symbols name the version.
+    /// Returns the version index that symbols refer to.
     pub fn vd_ndx(&self) -> u16
-        ensures { result ≡ get places.vd_ndx self.now.bytes }
+        ensures { result ≡ get fields.vd_ndx self.now.bytes }
     {
         read_u16(&self.bytes, 4)
     }
 
-    /// How many names it has: its own first, then those of the versions that it extends.
+    /// Returns `vd_cnt`, the number of names: its own first, then those of its predecessors.
     pub fn vd_cnt(&self) -> u16
-        ensures { result ≡ get places.vd_cnt self.now.bytes }
+        ensures { result ≡ get fields.vd_cnt self.now.bytes }
     {
         read_u16(&self.bytes, 6)
     }
 
-    /// The hash of its name.
+    /// Returns the hash of the name.
     pub fn vd_hash(&self) -> u32
-        ensures { result ≡ get places.vd_hash self.now.bytes }
+        ensures { result ≡ get fields.vd_hash self.now.bytes }
     {
         read_u32(&self.bytes, 8)
     }
 
-    /// Where its first name is, in bytes from the start of this record.
+    /// Returns `vd_aux`, the offset of the first Verdaux from the start of this record.
     pub fn vd_aux(&self) -> u32
-        ensures { result ≡ get places.vd_aux self.now.bytes }
+        ensures { result ≡ get fields.vd_aux self.now.bytes }
     {
         read_u32(&self.bytes, 12)
     }
 
-    /// Where the next version is, in bytes from the start of this record; 0 for none.
+    /// Returns `vd_next`, the offset of the next Verdef from the start of this record, 0 for none.
     pub fn vd_next(&self) -> u32
-        ensures { result ≡ get places.vd_next self.now.bytes }
+        ensures { result ≡ get fields.vd_next self.now.bytes }
     {
         read_u32(&self.bytes, 16)
     }
 }
 
-/// A name of a version that a file defines.
+/// A name of a version definition (Verdaux).
 #[derive(Clone, Copy)]
 pub struct Verdaux {
+    /// The bytes of the record, as a file holds them.
     pub bytes: [u8; 8],
 }
 
 impl Record for Verdaux {
-    ghost SIZE = { places.verdaux_size };
+    ghost SIZE = { fields.verdaux_size };
 
     ghost has_bytes = { lit< tt };
 
@@ -129,23 +131,23 @@ impl Record for Verdaux {
 impl Default for Verdaux {
     ghost is_default = { λ r. r.bytes ≡ replicate 8 0 };
 
-    /// The record of zero bytes.
+    /// Returns the record of zero bytes.
     fn default() -> Self {
         Verdaux::zeroed()
     }
 }
 
 impl Verdaux {
-    /// Where the name begins in the strings of the section.
+    /// Returns the offset of the name in the string table.
     pub fn vda_name(&self) -> u32
-        ensures { result ≡ get places.vda_name self.now.bytes }
+        ensures { result ≡ get fields.vda_name self.now.bytes }
     {
         read_u32(&self.bytes, 0)
     }
 
-    /// Where the next name is, in bytes from the start of this record; 0 for none.
+    /// Returns `vda_next`, the offset of the next Verdaux from the start of this record, 0 for none.
     pub fn vda_next(&self) -> u32
-        ensures { result ≡ get places.vda_next self.now.bytes }
+        ensures { result ≡ get fields.vda_next self.now.bytes }
     {
         read_u32(&self.bytes, 4)
     }

@@ -1,20 +1,21 @@
-//! The version of a symbol (GNU symbol versioning, Symbol Version Table).
+//! The version index of a symbol (GNU symbol versioning, Symbol Version Table).
 
 ghost use Rattle.std.proofs.Common.{lit<};
 ghost use Rattle.std.specs.Prelude.{◌≡◌, replicate, ◌%◌, ◌^◌, ◌≤◌, ◌↔◌, IsTrue};
 ghost use Rattle.elf_format.specs.Bytes.{get};
-ghost use Rattle.elf_format.specs.Table as places;
+ghost use Rattle.elf_format.specs.Table as fields;
 
 use elf_words::{Record, read_u16};
 
-/// The version of a symbol.
+/// The version index of a symbol.
 #[derive(Clone, Copy)]
 pub struct Versym {
+    /// The bytes of the record, as a file holds them.
     pub bytes: [u8; 2],
 }
 
 impl Record for Versym {
-    ghost SIZE = { places.versym_size };
+    ghost SIZE = { fields.versym_size };
 
     ghost has_bytes = { lit< tt };
 
@@ -39,30 +40,30 @@ impl Record for Versym {
 impl Default for Versym {
     ghost is_default = { λ r. r.bytes ≡ replicate 2 0 };
 
-    /// The record of zero bytes.
+    /// Returns the record of zero bytes.
     fn default() -> Self {
         Versym::zeroed()
     }
 }
 
 impl Versym {
-    /// The index of the version in the low 15 bits, and whether it is hidden in bit 15.
+    /// Returns all 16 bits: the version index in the low 15 bits, the hidden bit in bit 15.
     pub fn vs_value(&self) -> u16
-        ensures { result ≡ get places.vs_value self.now.bytes }
+        ensures { result ≡ get fields.vs_value self.now.bytes }
     {
         read_u16(&self.bytes, 0)
     }
 
-    /// The index of the version: 0 is local, 1 is global without a version.
+    /// Returns the low 15 bits: the version index. 0 is local, 1 is global.
     pub fn index(&self) -> u16
-        ensures { result ≡ get places.vs_value self.now.bytes % 2 ^ 15 }
+        ensures { result ≡ get fields.vs_value self.now.bytes % 2 ^ 15 }
     {
         self.vs_value() % 0x8000
     }
 
-    /// Whether the symbol is hidden: a reference without a version does not find it.
+    /// Reports whether bit 15 is set: the version is hidden from references without a version.
     pub fn is_hidden(&self) -> bool
-        ensures { IsTrue result ↔ (2 ^ 15 ≤ get places.vs_value self.now.bytes) }
+        ensures { IsTrue result ↔ (2 ^ 15 ≤ get fields.vs_value self.now.bytes) }
     {
         self.vs_value() >= 0x8000
     }

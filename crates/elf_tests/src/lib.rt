@@ -3,6 +3,16 @@
 #![tactic(auto)]
 
 #[cfg(test)]
+mod faults;
+#[cfg(test)]
+mod plain_rules;
+#[cfg(test)]
+mod records;
+#[cfg(test)]
 mod relocs;
 #[cfg(test)]
+mod setters;
+#[cfg(test)]
 mod view;
+#[cfg(test)]
+mod words;

@@ -25,7 +25,9 @@ fn lists_in_crel(rt: HostRuntime) -> Result<(), Fail> {
         let Some(Ok(found)) = list.next() else {
             return Ok(assert!(rt; false));
         };
-        assert!(rt; [found.offset, u64::from(found.symbol), u64::from(found.kind)] == [offset, 1, 2]);
+        assert!(rt;
+            [found.offset, u64::from(found.symbol), u64::from(found.kind)] == [offset, 1, 2]
+        );
         decoded.push(ElfCrel::<Class64>::new(found))?;
     }
     assert!(rt; list.next().is_none() && list.len() == 2);
@@ -46,7 +48,10 @@ fn malformed_lists(rt: HostRuntime) -> Result<(), Fail> {
     for (header, error) in [
         (b"".as_slice(), CrelError::Truncated),
         (b"\x80", CrelError::Truncated),
-        (b"\x80\x80\x80\x80\x80\x80\x80\x80\x80\x02", CrelError::TooLong),
+        (
+            b"\x80\x80\x80\x80\x80\x80\x80\x80\x80\x02",
+            CrelError::TooLong,
+        ),
     ] {
         assert!(rt; matches!(CrelIterator::parse(header), Err(found) if found == error));
     }
@@ -54,7 +59,10 @@ fn malformed_lists(rt: HostRuntime) -> Result<(), Fail> {
         (b"\x14\x83\x01\x01\x02".as_slice(), CrelError::Truncated),
         (b"\x14\x83\x01\x01\x02\x44", CrelError::Truncated),
         (b"\x14\x40\x80\x80", CrelError::Truncated),
-        (b"\x14\x40\xc0\x80\x80\x80\x80\x80\x80\x80\x80\x80\x02", CrelError::TooLong),
+        (
+            b"\x14\x40\xc0\x80\x80\x80\x80\x80\x80\x80\x80\x80\x02",
+            CrelError::TooLong,
+        ),
     ] {
         let all = CrelIterator::parse(bytes)?.to_vec::<Class64>(rt.alloc());
         let mut list = CrelIterator::parse(bytes)?;
@@ -78,7 +86,10 @@ fn sequences_of_either_form(rt: HostRuntime) -> Result<(), Fail> {
     let list: RelocationList<Class64> = RelocationList::Crel(CrelIterator::parse(LIST)?);
     assert!(rt; list.num_relocations() == 2);
     let decoded = list.to_sequence(rt.alloc())?;
-    for (sequence, is_rela, offset, addend) in [(&records, true, 8, -1), (&decoded, false, 0x18, 0)] {
+    for (sequence, is_rela, offset, addend) in [
+        (&records, true, 8, -1),
+        (&decoded, false, 0x18, 0),
+    ] {
         assert!(rt; sequence.num_relocations() == 2);
         let Some(first) = sequence.rel_iter().next() else {
             return Ok(assert!(rt; false));

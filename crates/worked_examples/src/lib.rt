@@ -3,18 +3,12 @@
 #![tactic(auto)]
 
 #[cfg(test)]
-mod faults;
-#[cfg(test)]
 mod frames;
 #[cfg(test)]
 mod object;
 #[cfg(test)]
-mod plain_rules;
-#[cfg(test)]
 mod refusals;
 #[cfg(test)]
 mod reports;
-#[cfg(test)]
-mod sample;
 #[cfg(test)]
 mod tables;

@@ -1,6 +1,5 @@
-//! Every setter once in both classes, and the refusals of class 32 at their limits.
+//! Every setter once in both classes, and the errors of ELFCLASS32 at their limits.
 
-use super::*;
 use elf_records32::{
     CompressionHeader32, Dyn32, FileHeader32, ProgramHeader32, Rela32, Relr32, SectionHeader32,
     Sym32,
@@ -9,7 +8,15 @@ use elf_records64::{
     CompressionHeader64, Dyn64, FileHeader64, ProgramHeader64, Rela64, Relr64, SectionHeader64,
     Sym64,
 };
-use elf_words::{NoteHeader, Record, SectionFlags, SectionType};
+use elf_setters::{
+    WritableCompressionHeader, WritableDynamicEntry, WritableFileHeader, WritableNoteHeader,
+    WritableProgramHeader, WritableRela, WritableRelr, WritableSectionHeader, WritableSymbol,
+};
+use elf_words::{
+    CompressionFields, DynFields, Field, FieldError, FileHeaderFields, NoteHeader,
+    ProgramHeaderFields, Record, RelaFields, RelrFields, SectionFlags, SectionHeaderFields,
+    SectionType, SymFields,
+};
 
 fn file_header<H: WritableFileHeader>() -> Result<[u64; 7], FieldError> {
     let mut header = H::zeroed();
@@ -137,7 +144,7 @@ fn compression_header<H: WritableCompressionHeader>() -> Result<[u64; 3], FieldE
     ])
 }
 
-fn relative_word<R: WritableRelr>() -> Result<u64, FieldError> {
+fn relative_relocation<R: WritableRelr>() -> Result<u64, FieldError> {
     let mut word = R::zeroed();
     word.set_value(0x2001)?;
     Ok(word.r_value())
@@ -175,12 +182,12 @@ fn setters_of_symbols_and_entries(rt: HostRuntime) {
     let entry = Ok((-2, 0xffff_ffff));
     assert!(rt; dynamic_entry::<Dyn32>() == entry);
     assert!(rt; dynamic_entry::<Dyn64>() == entry);
-    assert!(rt; relative_word::<Relr32>() == Ok(0x2001));
-    assert!(rt; relative_word::<Relr64>() == Ok(0x2001));
+    assert!(rt; relative_relocation::<Relr32>() == Ok(0x2001));
+    assert!(rt; relative_relocation::<Relr64>() == Ok(0x2001));
 }
 
 #[test]
-fn refusals_of_class_32(rt: HostRuntime) {
+fn errors_of_elfclass32(rt: HostRuntime) {
     let mut symbol = Sym32 { bytes: [7; 16] };
     let found = symbol.set_value(0x1_0000_0000);
     let value = 0x1_0000_0000;

@@ -1,13 +1,13 @@
-//! Damaged objects: each gets the answer that a plain reading of the rules gives.
+//! Damaged objects: each is refused as a plain reading of the rules says.
 
 use crate::plain_rules::first_broken;
-use crate::sample::sample;
 use elf_format::ElfError;
 use elf_records64::Class64;
 use elf_view::File;
 use std::test::Fail;
+use test_objects::sample;
 
-/// What parsing refuses the bytes for.
+/// Returns the error of parsing, if any.
 fn refusal(bytes: &[u8]) -> Option<ElfError> {
     match File::<Class64>::parse_bytes(bytes, false) {
         Ok(_) => None,
@@ -32,9 +32,9 @@ fn an_object_that_is_cut(rt: HostRuntime) -> Result<(), Fail> {
 fn an_object_with_a_changed_byte(rt: HostRuntime) -> Result<(), Fail> {
     let mut bytes = sample(rt.alloc())?;
     let mut refused = 0u32;
-    for place in 0..bytes.len() {
+    for offset in 0..bytes.len() {
         for value in [0, 0x7f, 0x80, 0xff] {
-            let Some(byte) = bytes.get_mut(place) else {
+            let Some(byte) = bytes.get_mut(offset) else {
                 continue;
             };
             let kept = *byte;
@@ -43,7 +43,7 @@ fn an_object_with_a_changed_byte(rt: HostRuntime) -> Result<(), Fail> {
             if refusal(&bytes).is_some() {
                 refused = refused.saturating_add(1);
             }
-            if let Some(byte) = bytes.get_mut(place) {
+            if let Some(byte) = bytes.get_mut(offset) {
                 *byte = kept;
             }
         }
