@@ -32,7 +32,7 @@ merged_by s (c ∷ cs) gs = merged s c cs gs
 abbrev pub sorted_two : List ℕ
 sorted_two = merged_by two (read_ones two ranges) (reversed (functions (read_ones two ranges)))
 
-pub two_starts : functions (read_ones two ranges) ≡ (record { start = pos 100; size = 16 ∷ 0 ∷ 0 ∷ 0 ∷ []; info = 1 ∷ 0 ∷ 0 ∷ 0 ∷ 0 ∷ 0 ∷ 0 ∷ 0 ∷ []; rows = 161 ∷ 162 ∷ 163 ∷ [] } ∷ record { start = pos 50; size = 16 ∷ 0 ∷ 0 ∷ 0 ∷ []; info = 1 ∷ 0 ∷ 0 ∷ 0 ∷ 0 ∷ 0 ∷ 0 ∷ 0 ∷ []; rows = 177 ∷ 178 ∷ 179 ∷ [] } ∷ [])
+pub two_starts : functions (read_ones two ranges) ≡ (record { start = pos 100; size = 16 ∷ 0 ∷ 0 ∷ 0 ∷ []; info = 1 ∷ 0 ∷ 0 ∷ 0 ∷ 0 ∷ 0 ∷ 0 ∷ 0 ∷ []; fres = 161 ∷ 162 ∷ 163 ∷ [] } ∷ record { start = pos 50; size = 16 ∷ 0 ∷ 0 ∷ 0 ∷ []; info = 1 ∷ 0 ∷ 0 ∷ 0 ∷ 0 ∷ 0 ∷ 0 ∷ 0 ∷ []; fres = 177 ∷ 178 ∷ 179 ∷ [] } ∷ [])
 unfolding le
 two_starts = refl
 

@@ -1,12 +1,13 @@
--- The 28 bytes of a header (SFrame 2, The SFrame Header), and the signed numbers of a descriptor.
+-- The 28 bytes of a header (SFrame 2, SFrame Header), and the signed numbers of an FDE.
 use Rattle.std.specs.Prelude.{◌≡◌, ◌≢◌, ℕ, ℤ, Result, Ok, Err, List, [], ◌∷◌, ◌++◌, slice_index}
 use Rattle.std.specs.Int.{w8, w16, w32, to_le_bytes, cast_signed, cast_unsigned}
 use Rattle.elf_format.specs.Bytes.{u16_at, u32_at}
+use Rattle.sframe_format.specs.Numbers.{sframe_magic, sframe_version}
 use Rattle.sframe_format.specs.declared.header.Header.{Header}
 use Rattle.sframe_format.specs.declared.header.SframeError.{SframeError}
 use Rattle.sframe_format.specs.declared.header.SframeError.TheVariants.{BadMagicBytes, UnsupportedVersion}
 
--- the signed number in the four bytes from a place on
+-- the signed number in the four bytes at an offset
 abbrev pub i32_at : List ℕ → ℕ → ℤ
 i32_at bytes at = cast_signed w32 (u32_at bytes at)
 
@@ -14,7 +15,7 @@ i32_at bytes at = cast_signed w32 (u32_at bytes at)
 abbrev pub i32_bytes : ℤ → List ℕ
 i32_bytes z = to_le_bytes w32 (cast_unsigned w32 z)
 
--- the header that the first 28 bytes spell
+-- the header in the first 28 bytes
 abbrev pub header_of : List ℕ → Header
 header_of bytes = record {
   magic = u16_at bytes 0;
@@ -31,7 +32,7 @@ header_of bytes = record {
   fre_start_offset = u32_at bytes 24;
 }
 
--- the 28 bytes that spell a header
+-- the 28 bytes of a header
 abbrev pub header_bytes : Header → List ℕ
 header_bytes h =
     to_le_bytes w16 h.magic
@@ -42,8 +43,8 @@ header_bytes h =
     ++ to_le_bytes w32 h.fde_start_offset
     ++ to_le_bytes w32 h.fre_start_offset
 
--- what parsing answers for a header of these fields
+-- the result of parsing a header of these fields
 abbrev pub IsParsedHeader : Header → Result Header SframeError → Type 0
-IsParsedHeader h (Ok parsed) = (parsed ≡ h) × (h.magic ≡ 0xdee2) × (h.version ≡ 2)
-IsParsedHeader h (Err (BadMagicBytes value)) = (value ≡ h.magic) × (h.magic ≢ 0xdee2)
-IsParsedHeader h (Err (UnsupportedVersion value)) = (value ≡ h.version) × (h.magic ≡ 0xdee2) × (h.version ≢ 2)
+IsParsedHeader h (Ok parsed) = (parsed ≡ h) × (h.magic ≡ sframe_magic) × (h.version ≡ sframe_version)
+IsParsedHeader h (Err (BadMagicBytes value)) = (value ≡ h.magic) × (h.magic ≢ sframe_magic)
+IsParsedHeader h (Err (UnsupportedVersion value)) = (value ≡ h.version) × (h.magic ≡ sframe_magic) × (h.version ≢ sframe_version)

@@ -1,4 +1,4 @@
--- What sorting a section by its ranges gives: its bytes, and the outcome.
+-- The result of sorting a section by its ranges: its bytes and the outcome.
 use Rattle.std.specs.Prelude.{◌≡◌, ℕ, List, [], Some, None}
 use Rattle.elf_format.specs.declared.index.Span.{Span}
 use Rattle.sframe_format.specs.declared.fault.SframeOutcome.{SframeOutcome}
@@ -7,7 +7,7 @@ use Rattle.sframe_format.specs.Contribution.{Contribution, Function, other_versi
 use Rattle.sframe_format.specs.Merged.{used_len, merged}
 use Rattle.sframe_format.specs.Valid.{MergesInOrder}
 
--- bytes are the functions of s in order, as one contribution of which `used` bytes are used
+-- the bytes are the functions of s in order, as one contribution in the first `used` bytes
 pub record IsMerged (s : List ℕ) (rs : List Span) (bytes : List ℕ) (used : ℕ) : Type 0 where
   pub c : Contribution
   pub cs : List Contribution

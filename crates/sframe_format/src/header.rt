@@ -1,5 +1,5 @@
-//! The header of an SFrame section (SFrame 2, The SFrame Header): 28 bytes at the front of a contribution.
-//! Both offsets count from the end of the header and its auxiliary bytes.
+//! The header of an SFrame section (SFrame 2, SFrame Header): the first 28 bytes of a contribution. Both offsets
+//! in it count from the end of the header and its auxiliary bytes.
 
 ghost use Rattle.std.specs.Prelude.{◌≡◌, ◌≢◌, ◌+◌, ◌≤◌, ◌++◌, List, ℕ, length, drop, MatchResult, IfOk, Ok};
 ghost use Rattle.sframe_format.specs.Fields.{header_of, header_bytes, IsParsedHeader};
@@ -7,59 +7,58 @@ ghost use Rattle.sframe_format.specs.Fields.{header_of, header_bytes, IsParsedHe
 use elf_words::{read_u16, read_u32};
 use thiserror::Error;
 
-/// Why bytes are no header of version 2. The magic is looked at first.
+/// Why bytes are not a header of version 2. The magic is tested first.
 #[derive(Clone, Copy, Debug, PartialEq, Eq, Error)]
 pub enum SframeError {
-    /// The first two bytes are not the magic, but this number.
+    /// The first two bytes are this number, not the magic.
     #[error("Invalid SFrame magic {0:#x}")]
     BadMagicBytes(u16),
-    /// The magic is right, and the version is this one.
+    /// The magic is right, and the version is this one, not 2.
     #[error("Unsupported SFrame version {0}")]
     UnsupportedVersion(u8),
 }
 
-/// The fields of a contribution's first 28 bytes (SFrame 2, The SFrame Header). Lengths and offsets are in
-/// bytes.
+/// The fields of a header (SFrame 2, SFrame Header). Lengths and offsets are in bytes.
 #[derive(Clone, Copy, Debug, PartialEq, Eq)]
 pub struct Header {
-    /// 0xdee2.
+    /// `sfp_magic`: 0xdee2.
     pub magic: u16,
-    /// The version of the format: 2.
+    /// `sfp_version`: 2.
     pub version: u8,
-    /// Bit 1: functions ascend by address; 2: each function keeps a frame pointer; 4: a start value counts
-    /// from its own field; 8: return addresses are signed.
+    /// `sfp_flags`. 1: FDEs ascend by address; 2: all functions keep a frame pointer; 4: a start value counts from its
+    /// own field; 8: return addresses are signed.
     pub flags: u8,
-    /// The machine and its byte order.
+    /// `sfh_abi_arch`: the machine and its byte order.
     pub abi_arch: u8,
-    /// Where the frame pointer is saved, from the canonical frame address; 0 where that is not fixed.
+    /// `sfh_cfa_fixed_fp_offset`: the offset of the saved frame pointer from the CFA; 0 where it is not fixed.
     pub cfa_fixed_fp_offset: i8,
-    /// Where the return address is saved, from the canonical frame address; 0 where that is not fixed.
+    /// `sfh_cfa_fixed_ra_offset`: the offset of the saved return address from the CFA; 0 where it is not fixed.
     pub cfa_fixed_ra_offset: i8,
-    /// How many auxiliary bytes follow the header.
+    /// `sfh_auxhdr_len`: the number of auxiliary bytes after the header.
     pub aux_len: u8,
-    /// How many function descriptors there are, of 20 bytes each.
+    /// `sfh_num_fdes`: the number of FDEs, of 20 bytes each.
     pub num_fdes: u32,
-    /// How many rows all functions have together.
+    /// `sfh_num_fres`: the number of FREs of all functions.
     pub num_fres: u32,
-    /// How many bytes all rows have together.
+    /// `sfh_fre_len`: the size of all FREs.
     pub fre_len: u32,
-    /// Where the descriptors begin.
+    /// `sfh_fdeoff`: the offset of the first FDE.
     pub fde_start_offset: u32,
-    /// Where the rows begin.
+    /// `sfh_freoff`: the offset of the first FRE.
     pub fre_start_offset: u32,
 }
 
 impl Header {
-    /// How many bytes a header has.
+    /// The size of a header in bytes.
     pub const SIZE: usize = 28;
 
-    /// The number in the first two bytes.
+    /// The number in the first two bytes of a header.
     pub const MAGIC: u16 = 0xdee2;
 
     /// The version that is read and written.
     pub const VERSION: u8 = 2;
 
-    /// The fields at their places, whatever they hold. There have to be 28 bytes.
+    /// Returns the fields of the first 28 bytes, whatever they hold. Requires 28 bytes.
     pub fn read(bytes: &[u8]) -> Header
         requires { 28 ≤ length bytes.now }
         ensures { result ≡ header_of bytes.now }
@@ -80,8 +79,8 @@ impl Header {
         }
     }
 
-    /// The header of version 2 in the first 28 bytes, which have to be there: `BadMagicBytes` exactly where
-    /// the magic is another one, else `UnsupportedVersion` exactly where the version is.
+    /// Returns the header of version 2 in the first 28 bytes. Requires 28 bytes. `BadMagicBytes` exactly where the
+    /// magic is another one, else `UnsupportedVersion` exactly where the version is.
     pub fn parse(bytes: &[u8]) -> Result<Header, SframeError>
         requires { 28 ≤ length bytes.now }
         ensures { IsParsedHeader (header_of bytes.now) result }
@@ -96,7 +95,7 @@ impl Header {
         Ok(header)
     }
 
-    /// Writes the header into the first 28 bytes, which have to be there, and leaves the others as they are.
+    /// Writes the header into the first 28 bytes and leaves the others. Requires 28 bytes.
     pub fn write(&self, out: &mut [u8])
         requires { 28 ≤ length out.old }
         ensures { out.new ≡ header_bytes self.now ++ drop 28 out.old }
@@ -104,7 +103,7 @@ impl Header {
         out[..28].copy_from_slice(&self.to_bytes());
     }
 
-    /// The 28 bytes that spell the header.
+    /// Returns the 28 bytes of the header.
     pub fn to_bytes(&self) -> [u8; 28]
         ensures value { result ≡ header_bytes self.now }
         ensures len { length result ≡ 28 }
@@ -148,7 +147,7 @@ impl Header {
     }
 }
 
-/// What a header's bytes spell is the header.
+/// A header that is written is read again.
 pub fn written_then_read(header: Header)
     ensures { (rest : List ℕ) → header_of (header_bytes header ++ rest) ≡ header }
 {}

@@ -8,14 +8,14 @@ use Rattle.sframe_format.specs.declared.fault.SframeFault.{SframeFault}
 use Rattle.sframe_format.specs.declared.fault.SframeFault.TheVariants as faults
 use Rattle.sframe_format.specs.declared.fault.TruncatedKind.TheVariants.{FdeArray, FreStart}
 use Rattle.sframe_format.specs.declared.fault.LargeKind.TheVariants as kinds
-use Rattle.sframe_format.specs.Contribution.{Contribution, Function, header, descriptors_start, rows_start, row_offset, read_ones, other_version, functions}
+use Rattle.sframe_format.specs.Contribution.{Contribution, Function, header, fdes_start, fres_start, row_offset, read_ones, other_version, functions}
 use Rattle.sframe_format.specs.Order.{InOrder}
 use Rattle.sframe_format.specs.Valid.{IsWellFormedContribution, AreWellFormedContributions, offset_fault, contribution_fault, first_fault, or_else, HasReadableRanges, IsSortable, MergesInOrder, HasRoom, StartsFit, IsSortCause}
 use Rattle.elf_format.specs.Span.{AreInside}
 use Rattle.sframe_format.specs.Sorted.{SortOf}
 use Rattle.sframe_order.specs.declared.plan.Plan.{Plan}
 use Rattle.sframe_order.specs.declared.plan.Plan.TheVariants.{Keep, Write}
-use Rattle.sframe_order.specs.Plan.{IsPlan, IsMergePlan, IsMergeFault}
+use Rattle.sframe_order.specs.steps.Plan.{IsPlan, IsMergePlan, IsMergeFault}
 use Rattle.sframe_order.proofs.OneOrder.{InOrder-unique, InOrder-none}
 
 -- ---- contributions
@@ -32,17 +32,17 @@ none_found p a (suc n) e k b = none_from p a n (p a) refl e (none_found p (a + 1
 passed : (x n : ℕ) → not (ltb x n) ≡ false → x < n
 passed x n t = grind (arith, nat_tests)
 
-sound_from : (c : Contribution) (b1 b2 b3 : Bool) (o : Option ℕ) → not (eqb (header c).magic 0xdee2) ≡ b1 → ltb (length c.bytes) (descriptors_start c + 20 * (header c).num_fdes) ≡ b2 → ltb (length c.bytes) (rows_start c) ≡ b3 → find (λ d. not (ltb (row_offset c d) (length c.bytes - rows_start c))) (range_with_len 0 (header c).num_fdes) ≡ o
-    → cond b1 (Some (faults.BadMagic (header c).magic c.place)) (cond b2 (Some (faults.Truncated FdeArray c.place)) (cond b3 (Some (faults.Truncated FreStart c.place)) (offset_fault c o))) ≡ None → IsWellFormedContribution c
+sound_from : (c : Contribution) (b1 b2 b3 : Bool) (o : Option ℕ) → not (eqb (header c).magic 0xdee2) ≡ b1 → ltb (length c.bytes) (fdes_start c + 20 * (header c).num_fdes) ≡ b2 → ltb (length c.bytes) (fres_start c) ≡ b3 → find (λ d. not (ltb (row_offset c d) (length c.bytes - fres_start c))) (range_with_len 0 (header c).num_fdes) ≡ o
+    → cond b1 (Some (faults.BadMagic (header c).magic c.offset)) (cond b2 (Some (faults.Truncated FdeArray c.offset)) (cond b3 (Some (faults.Truncated FreStart c.offset)) (offset_fault c o))) ≡ None → IsWellFormedContribution c
 sound_from c true b2 b3 o t1 t2 t3 t4 e = cc
 sound_from c false true b3 o t1 t2 t3 t4 e = cc
 sound_from c false false true o t1 t2 t3 t4 e = cc
 sound_from c false false false (Some d) t1 t2 t3 t4 e = cc
 sound_from c false false false None t1 t2 t3 t4 e = record {
   magic = grind (arith, nat_tests);
-  descriptors = grind (arith, nat_tests);
-  rows = grind (arith, nat_tests);
-  offsets = λ d b. passed _ _ (ap (λ k. not (ltb (row_offset c k) (length c.bytes - rows_start c))) (omega arith) ∙ none_found (λ d. not (ltb (row_offset c d) (length c.bytes - rows_start c))) 0 (header c).num_fdes t4 d b);
+  fdes = grind (arith, nat_tests);
+  fres = grind (arith, nat_tests);
+  offsets = λ d b. passed _ _ (ap (λ k. not (ltb (row_offset c k) (length c.bytes - fres_start c))) (omega arith) ∙ none_found (λ d. not (ltb (row_offset c d) (length c.bytes - fres_start c))) 0 (header c).num_fdes t4 d b);
 }
 
 sound_at_none : (c : Contribution) → contribution_fault c ≡ None → IsWellFormedContribution c
@@ -60,9 +60,9 @@ sound_from_none (c ∷ cs) e = sound_rest c cs (contribution_fault c) refl e (so
 abbrev IsOfContribution : SframeFault → Type 0
 IsOfContribution (faults.BadMagic value offset) = Unit {0}
 IsOfContribution (faults.Truncated kind offset) = Unit {0}
-IsOfContribution (faults.BadRange place) = ⊥
+IsOfContribution (faults.BadRange index) = ⊥
 IsOfContribution (faults.TooLarge kind needed limit) = ⊥
-IsOfContribution (faults.AddressRange place value) = ⊥
+IsOfContribution (faults.AddressRange index value) = ⊥
 IsOfContribution faults.NoMemory = ⊥
 
 abbrev IsOfContributions : Option SframeFault → Type 0
@@ -73,7 +73,7 @@ offset_kind : (c : Contribution) (o : Option ℕ) → IsOfContributions (offset_
 offset_kind c None = tt
 offset_kind c (Some d) = tt
 
-kind_from : (c : Contribution) (b1 b2 b3 : Bool) (o : Option ℕ) → IsOfContributions (cond b1 (Some (faults.BadMagic (header c).magic c.place)) (cond b2 (Some (faults.Truncated FdeArray c.place)) (cond b3 (Some (faults.Truncated FreStart c.place)) (offset_fault c o))))
+kind_from : (c : Contribution) (b1 b2 b3 : Bool) (o : Option ℕ) → IsOfContributions (cond b1 (Some (faults.BadMagic (header c).magic c.offset)) (cond b2 (Some (faults.Truncated FdeArray c.offset)) (cond b3 (Some (faults.Truncated FreStart c.offset)) (offset_fault c o))))
 kind_from c true b2 b3 o = tt
 kind_from c false true b3 o = tt
 kind_from c false false true o = tt
@@ -90,9 +90,9 @@ kind_of_first (c ∷ cs) = either_kind (contribution_fault c) (first_fault cs) (
 cause_by : (s : List ℕ) (rs : List Span) (e : SframeFault) → IsOfContribution e → AreInside (length s) rs → length s < 2 ^ 32 → first_fault (read_ones s rs) ≡ Some e → IsSortCause s rs e
 cause_by s rs (faults.BadMagic value offset) k inside size e = (inside, size, e)
 cause_by s rs (faults.Truncated kind offset) k inside size e = (inside, size, e)
-cause_by s rs (faults.BadRange place) k inside size e = absurd k
+cause_by s rs (faults.BadRange index) k inside size e = absurd k
 cause_by s rs (faults.TooLarge kind needed limit) k inside size e = absurd k
-cause_by s rs (faults.AddressRange place value) k inside size e = absurd k
+cause_by s rs (faults.AddressRange index value) k inside size e = absurd k
 cause_by s rs faults.NoMemory k inside size e = absurd k
 
 pub cause_of_first : (s : List ℕ) (rs : List Span) (e : SframeFault) → AreInside (length s) rs → length s < 2 ^ 32 → first_fault (read_ones s rs) ≡ Some e → IsSortCause s rs e
@@ -104,9 +104,9 @@ pub cause_of_merge : (s : List ℕ) (rs : List Span) (e : SframeFault) → HasRe
 cause_of_merge s rs (faults.TooLarge kinds.Merged needed limit) readable one h = (readable, one, h)
 cause_of_merge s rs (faults.TooLarge kinds.Rows needed limit) readable one h = (readable, one, h)
 cause_of_merge s rs (faults.TooLarge kinds.Section needed limit) readable one h = absurd h
-cause_of_merge s rs (faults.AddressRange place value) readable one h = (readable, one, h)
+cause_of_merge s rs (faults.AddressRange index value) readable one h = (readable, one, h)
 cause_of_merge s rs faults.NoMemory readable one h = tt
-cause_of_merge s rs (faults.BadRange place) readable one h = absurd h
+cause_of_merge s rs (faults.BadRange index) readable one h = absurd h
 cause_of_merge s rs (faults.BadMagic value offset) readable one h = absurd h
 cause_of_merge s rs (faults.Truncated kind offset) readable one h = absurd h
 

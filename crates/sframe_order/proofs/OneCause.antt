@@ -11,7 +11,7 @@ use Rattle.sframe_format.specs.declared.fault.SframeFault.{SframeFault}
 use Rattle.sframe_format.specs.declared.fault.SframeFault.TheVariants as faults
 use Rattle.sframe_format.specs.declared.fault.LargeKind.TheVariants as kinds
 use Rattle.sframe_format.specs.Contribution.{Contribution, Function, read_ones, functions}
-use Rattle.sframe_format.specs.Merged.{used_len, row_count, merged_starts}
+use Rattle.sframe_format.specs.Merged.{used_len, fre_count, merged_starts}
 use Rattle.sframe_format.specs.Order.{InOrder}
 use Rattle.sframe_format.specs.Valid.{HasReadableRanges, MergesInOrder, IsSortCause, first_fault, or_else, fits_i32}
 use Rattle.elf_format.specs.Span.{IsInside, AreInside, is_inside}
@@ -34,7 +34,7 @@ far_from starts (Some k) = option_map (λ z. faults.AddressRange k z) (slice_get
 merge_with : List ℕ → Contribution → List Contribution → List Function → Option SframeFault
 merge_with s c cs gs =
     cond (ltb (length s) (used_len c gs)) (Some (faults.TooLarge kinds.Merged (used_len c gs) (length s)))
-    (cond (ltb (2 ^ 32 - 1) (row_count (c ∷ cs))) (Some (faults.TooLarge kinds.Rows (row_count (c ∷ cs)) (2 ^ 32 - 1)))
+    (cond (ltb (2 ^ 32 - 1) (fre_count (c ∷ cs))) (Some (faults.TooLarge kinds.Rows (fre_count (c ∷ cs)) (2 ^ 32 - 1)))
     (far_from (merged_starts c cs gs) (position (λ z. not (fits_i32 z)) (merged_starts c cs gs))))
 
 merge_cause : List ℕ → List Contribution → Option SframeFault
@@ -119,14 +119,14 @@ told s rs (faults.Truncated kind offset) other (inside, size, fault) = contribut
 told s rs (faults.TooLarge kinds.Merged needed limit) other (readable, one, h) =
     merge_told s rs h.c h.cs h.gs _ readable h.merge (cond_true (ltb (length s) (used_len h.c h.gs)) _ _ (test_below _ _ (omega (arith, h.needed_is, h.limit_is, h.beyond))) ∙ same_large (sym h.needed_is) (sym h.limit_is))
 told s rs (faults.TooLarge kinds.Rows needed limit) other (readable, one, h) =
-    let rows : needed ≡ row_count (h.c ∷ h.cs) = h.needed_is ∙ ap row_count h.merge.read_is in
-    merge_told s rs h.c h.cs h.gs _ readable h.merge (cond_false (ltb (length s) (used_len h.c h.gs)) _ _ (test_from _ _ h.short) ∙ cond_true (ltb (2 ^ 32 - 1) (row_count (h.c ∷ h.cs))) _ _ (test_below _ _ (omega (arith, h.limit_is, h.beyond))) ∙ same_large (sym rows) (sym h.limit_is))
-told s rs (faults.AddressRange place value) other (readable, one, h) =
+    let fres : needed ≡ fre_count (h.c ∷ h.cs) = h.needed_is ∙ ap fre_count h.merge.read_is in
+    merge_told s rs h.c h.cs h.gs _ readable h.merge (cond_false (ltb (length s) (used_len h.c h.gs)) _ _ (test_from _ _ h.short) ∙ cond_true (ltb (2 ^ 32 - 1) (fre_count (h.c ∷ h.cs))) _ _ (test_below _ _ (omega (arith, h.limit_is, h.beyond))) ∙ same_large (sym fres) (sym h.limit_is))
+told s rs (faults.AddressRange index value) other (readable, one, h) =
     merge_told s rs h.c h.cs h.gs _ readable h.merge
     (cond_false (ltb (length s) (used_len h.c h.gs)) _ _ (test_from _ _ h.room.used)
-    ∙ cond_false (ltb (2 ^ 32 - 1) (row_count (h.c ∷ h.cs))) _ _ (small_test _ h.room.rows)
+    ∙ cond_false (ltb (2 ^ 32 - 1) (fre_count (h.c ∷ h.cs))) _ _ (small_test _ h.room.fres)
     ∙ ap (far_from (merged_starts h.c h.cs h.gs)) h.first.0
-    ∙ ap (option_map (λ z. faults.AddressRange place z)) h.first.1)
+    ∙ ap (option_map (λ z. faults.AddressRange index z)) h.first.1)
 told s rs faults.NoMemory other h = absurd (other refl)
 
 -- causes other than want of memory are the same one

@@ -13,8 +13,8 @@ use Rattle.sframe_format.specs.declared.fault.SframeOutcome.TheVariants.{Sorted,
 use Rattle.sframe_format.specs.declared.fault.SframeFault.{SframeFault}
 use Rattle.sframe_format.specs.declared.fault.SframeFault.TheVariants as faults
 use Rattle.sframe_format.specs.declared.fault.LargeKind.TheVariants as kinds
-use Rattle.sframe_format.specs.Contribution.{Contribution, header, rows_start, row_offset, read_ones, other_version, function_at, functions_of, functions}
-use Rattle.sframe_format.specs.Merged.{merged, used_len, row_count, merged_starts}
+use Rattle.sframe_format.specs.Contribution.{Contribution, header, fres_start, row_offset, read_ones, other_version, function_at, functions_of, functions}
+use Rattle.sframe_format.specs.Merged.{merged, used_len, fre_count, merged_starts}
 use Rattle.sframe_format.specs.Valid.{IsWellFormedContribution, AreWellFormedContributions, IsSortable, IsSortCause, contribution_fault, first_fault, or_else, offset_fault, fits_i32}
 use Rattle.elf_format.specs.Span.{IsInside, is_inside}
 use Rattle.sframe_format.specs.Sorted.{SortOf, IsMerged}
@@ -76,8 +76,8 @@ not_below m n h = grind (arith, nat_tests)
 
 no_fault : (c : Contribution) → IsWellFormedContribution c → contribution_fault c ≡ None
 no_fault c sound =
-    none_of _ _ _ _ _ _ _ (is_magic (header c).magic sound.magic) (not_below _ _ sound.descriptors) (not_below _ _ sound.rows)
-    (ap (offset_fault c) (sym (none_below (λ d. not (ltb (row_offset c d) (length c.bytes - rows_start c))) (header c).num_fdes (λ k b. passes_below _ _ (sound.offsets k b)))))
+    none_of _ _ _ _ _ _ _ (is_magic (header c).magic sound.magic) (not_below _ _ sound.fdes) (not_below _ _ sound.fres)
+    (ap (offset_fault c) (sym (none_below (λ d. not (ltb (row_offset c d) (length c.bytes - fres_start c))) (header c).num_fdes (λ k b. passes_below _ _ (sound.offsets k b)))))
 
 pub no_first_fault : (cs : List Contribution) → AreWellFormedContributions cs → first_fault cs ≡ None
 no_first_fault [] sound = refl
@@ -103,8 +103,8 @@ only_memory s rs (faults.TooLarge kinds.Section needed limit) valid (inside, n, 
 only_memory s rs (faults.BadMagic value offset) valid (inside, size, fault) = found_no _ _ (no_first_fault (read_ones s rs) valid.readable.contributions) fault
 only_memory s rs (faults.Truncated kind offset) valid (inside, size, fault) = found_no _ _ (no_first_fault (read_ones s rs) valid.readable.contributions) fault
 only_memory s rs (faults.TooLarge kinds.Merged needed limit) valid (readable, one, h) = absurd (omega (arith, (valid.room one h.c h.cs h.gs h.merge).used, h.needed_is, h.limit_is, h.beyond))
-only_memory s rs (faults.TooLarge kinds.Rows needed limit) valid (readable, one, h) = absurd (omega (arith, (valid.room one h.c h.cs h.gs h.merge).rows, h.needed_is, ap row_count h.merge.read_is, h.limit_is, h.beyond))
-only_memory s rs (faults.AddressRange place value) valid (readable, one, h) = absurd (no_far (merged_starts h.c h.cs h.gs) place (valid.starts one h.c h.cs h.gs h.merge) h.first.0)
+only_memory s rs (faults.TooLarge kinds.Rows needed limit) valid (readable, one, h) = absurd (omega (arith, (valid.room one h.c h.cs h.gs h.merge).fres, h.needed_is, ap fre_count h.merge.read_is, h.limit_is, h.beyond))
+only_memory s rs (faults.AddressRange index value) valid (readable, one, h) = absurd (no_far (merged_starts h.c h.cs h.gs) index (valid.starts one h.c h.cs h.gs h.merge) h.first.0)
 only_memory s rs faults.NoMemory valid h = refl
 
 -- ---- outcomes

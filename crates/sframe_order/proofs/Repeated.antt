@@ -12,17 +12,17 @@ use Rattle.elf_format.specs.declared.index.Span.{Span}
 use Rattle.sframe_format.specs.Fields.{header_of, header_bytes}
 use Rattle.sframe_format.specs.Contribution.{Contribution, Function, header, contribution_at, is_contribution, is_other_version, contributions, read_ones, functions}
 use Rattle.sframe_format.specs.Order.{InOrder}
-use Rattle.sframe_format.specs.Merged.{merged, merged_flags, merged_header, used_len, first_place, descriptors, start_fields, rows_len, row_count}
+use Rattle.sframe_format.specs.Merged.{merged, merged_flags, merged_header, used_len, merged_fdes_start, fdes, start_fields, fres_len, fre_count}
 use Rattle.sframe_format.specs.Valid.{HasReadableRanges, MergesInOrder, HasRoom, StartsFit}
 use Rattle.sframe_format.specs.Sorted.{IsMerged}
 use Rattle.sframe_format.proofs.Again.{HeaderFits, header_of-header_bytes}
 use Rattle.sframe_format.proofs.Headers.{same_header}
 use Rattle.sframe_order.specs.Laws.{AreBytes, used_span}
 use Rattle.sframe_order.proofs.Carried.{IsWhole, All-in_order, whole, length_range}
-use Rattle.sframe_order.proofs.Descriptors.{range-range}
+use Rattle.sframe_order.proofs.Fdes.{range-range}
 use Rattle.sframe_order.proofs.Flags.{merged_flags_stay}
 use Rattle.sframe_order.proofs.Laid.{IsLaid, functions_again}
-use Rattle.sframe_order.proofs.Pieces.{used_bytes, length_four, second_part, third_part, last_part, length_descriptors, length_rows}
+use Rattle.sframe_order.proofs.Pieces.{used_bytes, length_four, second_part, third_part, last_part, length_fdes, length_fres}
 use Rattle.sframe_order.proofs.Reading.{read_ones-kept, other_version-kept}
 
 -- ---- bytes
@@ -55,13 +55,13 @@ read_bytes s rs all =
 
 -- ---- the header
 
-header_fits : (c : Contribution) (cs : List Contribution) (gs : List Function) → AreBytes c.bytes → used_len c gs < 2 ^ 32 → row_count (c ∷ cs) < 2 ^ 32 → HeaderFits (merged_header c cs gs)
-header_fits c cs gs bytes small rows = record {
+header_fits : (c : Contribution) (cs : List Contribution) (gs : List Function) → AreBytes c.bytes → used_len c gs < 2 ^ 32 → fre_count (c ∷ cs) < 2 ^ 32 → HeaderFits (merged_header c cs gs)
+header_fits c cs gs bytes small fres = record {
   magic = omega arith;
   fp = fits_byte (get_or c.bytes 5 0) (byte_at c.bytes 5 bytes);
   ra = fits_byte (get_or c.bytes 6 0) (byte_at c.bytes 6 bytes);
   fdes = omega arith;
-  fres = rows;
+  fres = fres;
   len = omega arith;
   fde_start = omega arith;
   fre_start = omega arith;
@@ -75,24 +75,24 @@ header_read h a d r fits =
     ap header_of (append_assoc (header_bytes h ++ a) d r ∙ append_assoc (header_bytes h) a (d ++ r)) ∙ header_of-header_bytes h (a ++ (d ++ r)) fits
 
 -- bytes of a header, auxiliary bytes, descriptors and rows
-again_laid : (x : Contribution) (h : Header) (aux : List ℕ) (flags a : ℕ) (gs : List Function) → x.place ≡ 0 → x.bytes ≡ header_bytes h ++ aux ++ descriptors flags (28 + a) gs ++ flat_map (λ (g : Function). g.rows) gs → HeaderFits h → h.flags ≡ flags → h.aux_len ≡ a → h.num_fdes ≡ length gs → h.fde_start_offset ≡ 0 → h.fre_start_offset ≡ 20 * length gs → length aux ≡ a
-    → All IsWhole gs → All (FitsSigned w32) (start_fields flags (28 + a) gs) → rows_len gs < 2 ^ 32 → IsLaid x flags a gs
-again_laid x h aux flags a gs place bytes fits flags_is aux_is count from rows_from len each fit small =
+again_laid : (x : Contribution) (h : Header) (aux : List ℕ) (flags a : ℕ) (gs : List Function) → x.offset ≡ 0 → x.bytes ≡ header_bytes h ++ aux ++ fdes flags (28 + a) gs ++ flat_map (λ (g : Function). g.fres) gs → HeaderFits h → h.flags ≡ flags → h.aux_len ≡ a → h.num_fdes ≡ length gs → h.fde_start_offset ≡ 0 → h.fre_start_offset ≡ 20 * length gs → length aux ≡ a
+    → All IsWhole gs → All (FitsSigned w32) (start_fields flags (28 + a) gs) → fres_len gs < 2 ^ 32 → IsLaid x flags a gs
+again_laid x h aux flags a gs offset bytes fits flags_is aux_is count from fres_from len each fit small =
     let is : header x ≡ h = ap header_of bytes ∙ header_read h aux _ _ fits in
-    let d : List ℕ = descriptors flags (28 + a) gs in
-    let r : List ℕ = flat_map (λ (g : Function). g.rows) gs in
-    let dl : length d ≡ 20 * length gs = length_descriptors flags (28 + a) gs each in
-    let rl : length r ≡ rows_len gs = length_rows gs in
+    let d : List ℕ = fdes flags (28 + a) gs in
+    let r : List ℕ = flat_map (λ (g : Function). g.fres) gs in
+    let dl : length d ≡ 20 * length gs = length_fdes flags (28 + a) gs each in
+    let rl : length r ≡ fres_len gs = length_fres gs in
     let hl : length (header_bytes h) ≡ 28 = length_header h in
     record {
-      place = place;
+      offset = offset;
       flags_are = ap (λ (k : Header). k.flags) is ∙ flags_is;
       aux_is = ap (λ (k : Header). k.aux_len) is ∙ aux_is;
       count = ap (λ (k : Header). k.num_fdes) is ∙ count;
-      descriptors_from = ap (λ (k : Header). k.fde_start_offset) is ∙ from;
-      rows_from = ap (λ (k : Header). k.fre_start_offset) is ∙ rows_from;
-      descriptors_are = ap (λ t. slice_range t (28 + a) (28 + a + 20 * length gs)) bytes ∙ third_part (header_bytes h) aux d r (28 + a) (28 + a + 20 * length gs) (omega arith) (omega arith);
-      rows_are = ap (λ t. slice_range t (28 + a + 20 * length gs) (28 + a + 20 * length gs + rows_len gs)) bytes ∙ last_part (header_bytes h) aux d r (28 + a + 20 * length gs) (28 + a + 20 * length gs + rows_len gs) (omega arith) (omega arith);
+      fdes_from = ap (λ (k : Header). k.fde_start_offset) is ∙ from;
+      fres_from = ap (λ (k : Header). k.fre_start_offset) is ∙ fres_from;
+      fdes_are = ap (λ t. slice_range t (28 + a) (28 + a + 20 * length gs)) bytes ∙ third_part (header_bytes h) aux d r (28 + a) (28 + a + 20 * length gs) (omega arith) (omega arith);
+      fres_are = ap (λ t. slice_range t (28 + a + 20 * length gs) (28 + a + 20 * length gs + fres_len gs)) bytes ∙ last_part (header_bytes h) aux d r (28 + a + 20 * length gs) (28 + a + 20 * length gs + fres_len gs) (omega arith) (omega arith);
       len = let four : length (header_bytes h ++ aux ++ d ++ r) ≡ 28 + length aux + length d + length r = length_four (header_bytes h) aux d r in ap length bytes ∙ four ∙ omega arith;
       whole = each;
       fit = fit;
@@ -113,29 +113,29 @@ pub record IsGood (s : List ℕ) (c : Contribution) (cs : List Contribution) (gs
   pub each : All IsWhole gs
   pub fit : StartsFit c cs gs
 
-aux_len : (s : List ℕ) (c : Contribution) (cs : List Contribution) (gs : List Function) → IsGood s c cs gs → length (slice_range s 28 (first_place c)) ≡ (header c).aux_len
-aux_len s c cs gs good = length_range s 28 (first_place c) (header c).aux_len refl (omega (arith, good.room.used))
+aux_len : (s : List ℕ) (c : Contribution) (cs : List Contribution) (gs : List Function) → IsGood s c cs gs → length (slice_range s 28 (merged_fdes_start c)) ≡ (header c).aux_len
+aux_len s c cs gs good = length_range s 28 (merged_fdes_start c) (header c).aux_len refl (omega (arith, good.room.used))
 
 abbrev used_part : List ℕ → Contribution → List Contribution → List Function → List ℕ
-used_part s c cs gs = header_bytes (merged_header c cs gs) ++ slice_range s 28 (first_place c) ++ descriptors (merged_flags c cs) (first_place c) gs ++ flat_map (λ (g : Function). g.rows) gs
+used_part s c cs gs = header_bytes (merged_header c cs gs) ++ slice_range s 28 (merged_fdes_start c) ++ fdes (merged_flags c cs) (merged_fdes_start c) gs ++ flat_map (λ (g : Function). g.fres) gs
 
 length_used : (s : List ℕ) (c : Contribution) (cs : List Contribution) (gs : List Function) → IsGood s c cs gs → length (used_part s c cs gs) ≡ used_len c gs
 length_used s c cs gs good =
-    let four : length (used_part s c cs gs) ≡ 28 + length (slice_range s 28 (first_place c)) + length (descriptors (merged_flags c cs) (first_place c) gs) + length (flat_map (λ (g : Function). g.rows) gs) = length_four (header_bytes (merged_header c cs gs)) (slice_range s 28 (first_place c)) (descriptors (merged_flags c cs) (first_place c) gs) (flat_map (λ (g : Function). g.rows) gs) in
-    omega (arith, aux_len s c cs gs good, length_descriptors (merged_flags c cs) (first_place c) gs good.each, length_rows gs)
+    let four : length (used_part s c cs gs) ≡ 28 + length (slice_range s 28 (merged_fdes_start c)) + length (fdes (merged_flags c cs) (merged_fdes_start c) gs) + length (flat_map (λ (g : Function). g.fres) gs) = length_four (header_bytes (merged_header c cs gs)) (slice_range s 28 (merged_fdes_start c)) (fdes (merged_flags c cs) (merged_fdes_start c) gs) (flat_map (λ (g : Function). g.fres) gs) in
+    omega (arith, aux_len s c cs gs good, length_fdes (merged_flags c cs) (merged_fdes_start c) gs good.each, length_fres gs)
 
 one_bytes : (s : List ℕ) (c : Contribution) (cs : List Contribution) (gs : List Function) → IsGood s c cs gs → (merged_one s c cs gs).bytes ≡ used_part s c cs gs
 one_bytes s c cs gs good = used_bytes (used_part s c cs gs) (replicate (length s - used_len c gs) 0) (used_len c gs) (length_used s c cs gs good)
 
 pub one_fits : (s : List ℕ) (c : Contribution) (cs : List Contribution) (gs : List Function) → IsGood s c cs gs → HeaderFits (merged_header c cs gs)
-one_fits s c cs gs good = header_fits c cs gs good.bytes (omega (arith, good.room.used, good.size)) good.room.rows
+one_fits s c cs gs good = header_fits c cs gs good.bytes (omega (arith, good.room.used, good.size)) good.room.fres
 
 pub one_header : (s : List ℕ) (c : Contribution) (cs : List Contribution) (gs : List Function) → IsGood s c cs gs → header (merged_one s c cs gs) ≡ merged_header c cs gs
-one_header s c cs gs good = ap header_of (one_bytes s c cs gs good) ∙ header_read (merged_header c cs gs) (slice_range s 28 (first_place c)) (descriptors (merged_flags c cs) (first_place c) gs) (flat_map (λ (g : Function). g.rows) gs) (one_fits s c cs gs good)
+one_header s c cs gs good = ap header_of (one_bytes s c cs gs good) ∙ header_read (merged_header c cs gs) (slice_range s 28 (merged_fdes_start c)) (fdes (merged_flags c cs) (merged_fdes_start c) gs) (flat_map (λ (g : Function). g.fres) gs) (one_fits s c cs gs good)
 
 pub one_laid : (s : List ℕ) (c : Contribution) (cs : List Contribution) (gs : List Function) → IsGood s c cs gs → IsLaid (merged_one s c cs gs) (merged_flags c cs) (header c).aux_len gs
 one_laid s c cs gs good =
-    again_laid (merged_one s c cs gs) (merged_header c cs gs) (slice_range s 28 (first_place c)) (merged_flags c cs) (header c).aux_len gs refl (one_bytes s c cs gs good) (one_fits s c cs gs good) refl refl refl refl refl (aux_len s c cs gs good) good.each good.fit (omega (arith, good.room.used, good.size))
+    again_laid (merged_one s c cs gs) (merged_header c cs gs) (slice_range s 28 (merged_fdes_start c)) (merged_flags c cs) (header c).aux_len gs refl (one_bytes s c cs gs good) (one_fits s c cs gs good) refl refl refl refl refl (aux_len s c cs gs good) good.each good.fit (omega (arith, good.room.used, good.size))
 
 pub length_merged : (s : List ℕ) (c : Contribution) (cs : List Contribution) (gs : List Function) → IsGood s c cs gs → length (merged s c cs gs) ≡ length s
 length_merged s c cs gs good =
@@ -143,7 +143,7 @@ length_merged s c cs gs good =
     let len : length zeros ≡ length s - used_len c gs = length-replicate {A = ℕ} (length s - used_len c gs) 0 in
     omega (arith, length-append (used_part s c cs gs) zeros, length_used s c cs gs good, good.room.used)
 
-same_section : {h h' : Header} {a a' : List ℕ} {f f' p p' n n' : ℕ} (gs : List Function) (r : List ℕ) → h ≡ h' → a ≡ a' → f ≡ f' → p ≡ p' → n ≡ n' → header_bytes h ++ a ++ descriptors f p gs ++ r ++ replicate n 0 ≡ header_bytes h' ++ a' ++ descriptors f' p' gs ++ r ++ replicate n' 0
+same_section : {h h' : Header} {a a' : List ℕ} {f f' p p' n n' : ℕ} (gs : List Function) (r : List ℕ) → h ≡ h' → a ≡ a' → f ≡ f' → p ≡ p' → n ≡ n' → header_bytes h ++ a ++ fdes f p gs ++ r ++ replicate n 0 ≡ header_bytes h' ++ a' ++ fdes f' p' gs ++ r ++ replicate n' 0
 same_section gs r e1 e2 e3 e4 e5 = cc
 
 pub flags_again : (s : List ℕ) (c : Contribution) (cs : List Contribution) (gs : List Function) → IsGood s c cs gs → merged_flags (merged_one s c cs gs) [] ≡ merged_flags c cs
@@ -153,20 +153,20 @@ flags_again s c cs gs good =
 header_again : (s : List ℕ) (c : Contribution) (cs : List Contribution) (gs : List Function) → IsGood s c cs gs → merged_header (merged_one s c cs gs) [] gs ≡ merged_header c cs gs
 header_again s c cs gs good =
     let is : header (merged_one s c cs gs) ≡ merged_header c cs gs = one_header s c cs gs good in
-    let fres : (header (merged_one s c cs gs)).num_fres ≡ row_count (c ∷ cs) = ap (λ (h : Header). h.num_fres) is in
+    let fres : (header (merged_one s c cs gs)).num_fres ≡ fre_count (c ∷ cs) = ap (λ (h : Header). h.num_fres) is in
     same_header refl refl (flags_again s c cs gs good) (ap (λ (h : Header). h.abi_arch) is) (ap (λ (h : Header). h.cfa_fixed_fp_offset) is) (ap (λ (h : Header). h.cfa_fixed_ra_offset) is) (ap (λ (h : Header). h.aux_len) is) refl (omega (arith, fres)) refl refl refl
 
-pub place_again : (s : List ℕ) (c : Contribution) (cs : List Contribution) (gs : List Function) → IsGood s c cs gs → first_place (merged_one s c cs gs) ≡ first_place c
+pub place_again : (s : List ℕ) (c : Contribution) (cs : List Contribution) (gs : List Function) → IsGood s c cs gs → merged_fdes_start (merged_one s c cs gs) ≡ merged_fdes_start c
 place_again s c cs gs good = ap (λ (h : Header). 28 + h.aux_len) (one_header s c cs gs good)
 
 pub used_again : (s : List ℕ) (c : Contribution) (cs : List Contribution) (gs : List Function) → IsGood s c cs gs → used_len (merged_one s c cs gs) gs ≡ used_len c gs
-used_again s c cs gs good = ap (λ n. n + 20 * length gs + rows_len gs) (place_again s c cs gs good)
+used_again s c cs gs good = ap (λ n. n + 20 * length gs + fres_len gs) (place_again s c cs gs good)
 
-aux_again : (s : List ℕ) (c : Contribution) (cs : List Contribution) (gs : List Function) → IsGood s c cs gs → slice_range (merged s c cs gs) 28 (first_place c) ≡ slice_range s 28 (first_place c)
+aux_again : (s : List ℕ) (c : Contribution) (cs : List Contribution) (gs : List Function) → IsGood s c cs gs → slice_range (merged s c cs gs) 28 (merged_fdes_start c) ≡ slice_range s 28 (merged_fdes_start c)
 aux_again s c cs gs good =
-    sym (range-range (merged s c cs gs) 0 (used_len c gs) 28 (first_place c) 28 (first_place c) (omega arith) (omega arith) (omega arith) (omega arith))
-    ∙ ap (λ t. slice_range t 28 (first_place c)) (one_bytes s c cs gs good)
-    ∙ second_part (header_bytes (merged_header c cs gs)) (slice_range s 28 (first_place c)) _ _ 28 (first_place c) refl (omega (arith, aux_len s c cs gs good))
+    sym (range-range (merged s c cs gs) 0 (used_len c gs) 28 (merged_fdes_start c) 28 (merged_fdes_start c) (omega arith) (omega arith) (omega arith) (omega arith))
+    ∙ ap (λ t. slice_range t 28 (merged_fdes_start c)) (one_bytes s c cs gs good)
+    ∙ second_part (header_bytes (merged_header c cs gs)) (slice_range s 28 (merged_fdes_start c)) _ _ 28 (merged_fdes_start c) refl (omega (arith, aux_len s c cs gs good))
 
 pub bytes_again : (s : List ℕ) (c : Contribution) (cs : List Contribution) (gs : List Function) → IsGood s c cs gs → merged (merged s c cs gs) (merged_one s c cs gs) [] gs ≡ merged s c cs gs
 bytes_again s c cs gs good =

@@ -7,38 +7,38 @@ use Rattle.sframe_format.specs.declared.header.Header.{Header}
 use Rattle.elf_format.specs.declared.index.Span.{Span}
 use Rattle.sframe_format.specs.Contribution.{Contribution, Function, header, read_ones, functions}
 use Rattle.sframe_format.specs.Order.{InOrder}
-use Rattle.sframe_format.specs.Merged.{merged, merged_flags, merged_starts, used_len, first_place, start_fields, rows_len, row_count}
+use Rattle.sframe_format.specs.Merged.{merged, merged_flags, merged_starts, used_len, merged_fdes_start, start_fields, fres_len, fre_count}
 use Rattle.sframe_format.specs.Valid.{IsWellFormedContribution, AreWellFormedContributions, IsSortable, MergesInOrder, HasRoom, StartsFit}
 use Rattle.elf_format.specs.Span.{IsInside}
 use Rattle.sframe_format.specs.Sorted.{IsMerged}
 use Rattle.sframe_order.proofs.Again.{before}
 use Rattle.sframe_order.proofs.Answering.{same_merge}
-use Rattle.sframe_order.proofs.Laid.{IsLaid, rows_place, offset_at}
+use Rattle.sframe_order.proofs.Laid.{IsLaid, fres_place, offset_at}
 use Rattle.sframe_order.proofs.Repeated.{IsGood, merged_one, one_header, one_laid, length_merged, flags_again, place_again, used_again, read_again, merge_again, again, good_from}
 use Rattle.sframe_order.specs.Laws.{AreBytes, used_span}
 
 laid_sound : (x : Contribution) (flags a : ℕ) (gs : List Function) (g : Function) → IsLaid x flags a gs → (header x).magic ≡ 0xdee2 → IsWellFormedContribution x
 laid_sound x flags a gs g laid magic = record {
   magic = magic;
-  descriptors = omega (arith, laid.aux_is, laid.descriptors_from, laid.count, laid.len);
-  rows = omega (arith, rows_place x flags a gs laid, laid.len);
+  fdes = omega (arith, laid.aux_is, laid.fdes_from, laid.count, laid.len);
+  fres = omega (arith, fres_place x flags a gs laid, laid.len);
   offsets = λ d b.
       let below : d < length gs = omega (arith, laid.count) in
-      let more : before gs (d + 1) ≡ before gs d + length (get_or gs d g).rows = sum_by_more (λ (g : Function). length g.rows) gs d g below in
-      let all : before gs (d + 1) ≤ rows_len gs = sum_by-take-le (λ (g : Function). length g.rows) gs (d + 1) in
-      omega (arith, offset_at x flags a gs d g laid below, rows_place x flags a gs laid, laid.len, (laid.whole d g below).rows);
+      let more : before gs (d + 1) ≡ before gs d + length (get_or gs d g).fres = sum_by_more (λ (g : Function). length g.fres) gs d g below in
+      let all : before gs (d + 1) ≤ fres_len gs = sum_by-take-le (λ (g : Function). length g.fres) gs (d + 1) in
+      omega (arith, offset_at x flags a gs d g laid below, fres_place x flags a gs laid, laid.len, (laid.whole d g below).fres);
 }
 
 room_again : (s : List ℕ) (c : Contribution) (cs : List Contribution) (gs : List Function) → IsGood s c cs gs → HasRoom (merged s c cs gs) (merged_one s c cs gs) [] gs
 room_again s c cs gs good =
-    let fres : (header (merged_one s c cs gs)).num_fres ≡ row_count (c ∷ cs) = ap (λ (h : Header). h.num_fres) (one_header s c cs gs good) in
+    let fres : (header (merged_one s c cs gs)).num_fres ≡ fre_count (c ∷ cs) = ap (λ (h : Header). h.num_fres) (one_header s c cs gs good) in
     record {
       used = omega (arith, used_again s c cs gs good, length_merged s c cs gs good, good.room.used);
-      rows = omega (arith, fres, good.room.rows);
+      fres = omega (arith, fres, good.room.fres);
     }
 
 starts_again : (s : List ℕ) (c : Contribution) (cs : List Contribution) (gs : List Function) → IsGood s c cs gs → merged_starts (merged_one s c cs gs) [] gs ≡ merged_starts c cs gs
-starts_again s c cs gs good = ap (λ f. start_fields f (first_place (merged_one s c cs gs)) gs) (flags_again s c cs gs good) ∙ ap (λ p. start_fields (merged_flags c cs) p gs) (place_again s c cs gs good)
+starts_again s c cs gs good = ap (λ f. start_fields f (merged_fdes_start (merged_one s c cs gs)) gs) (flags_again s c cs gs good) ∙ ap (λ p. start_fields (merged_flags c cs) p gs) (place_again s c cs gs good)
 
 pub valid_again : (s : List ℕ) (c : Contribution) (cs : List Contribution) (gs : List Function) (fs : List Function) (g : Function) → IsGood s c cs gs → InOrder fs gs → 0 < length gs → IsSortable (merged s c cs gs) (used_span (used_len c gs) ∷ [])
 valid_again s c cs gs fs g good order some =
@@ -59,7 +59,7 @@ valid_again s c cs gs fs g good order some =
     }
 
 no_function : Function
-no_function = record { start = pos 0; size = []; info = []; rows = [] }
+no_function = record { start = pos 0; size = []; info = []; fres = [] }
 
 good_of : (s t : List ℕ) (rs : List Span) (used : ℕ) → AreBytes s → IsSortable s rs → (h : IsMerged s rs t used) → IsGood s h.c h.cs h.gs
 good_of s t rs used bytes valid h = good_from s rs h.c h.cs h.gs bytes valid.readable h.merge (valid.room h.one_version h.c h.cs h.gs h.merge) (valid.starts h.one_version h.c h.cs h.gs h.merge)

@@ -1,4 +1,4 @@
--- Laws of sorting.
+-- Laws of sorting: what is sorted stays sorted; there is one result, one outcome and one cause.
 use Rattle.std.specs.Prelude.{◌≡◌, ◌≢◌, ℕ, ◌<◌, List, [], ◌∷◌, Some, None}
 use Rattle.std.specs.List.{All}
 use Rattle.elf_format.specs.declared.index.Span.{Span}
@@ -13,15 +13,16 @@ use Rattle.sframe_format.specs.Sorted.{SortOf}
 abbrev pub AreBytes : List ℕ → Type 0
 AreBytes xs = All (λ b. b < 256) xs
 
--- the used bytes of a sorted section
+-- the range of the used bytes of a sorted section
 abbrev pub used_span : ℕ → Span
 used_span used = record { start = 0; stop = used }
 
--- a valid section that is sorted, also where some of its contributions have relative starts and others absolute ones, stays as it is when it is sorted again by its used bytes
+-- Sorting the used bytes of a sorted section again changes nothing. Its contributions may have had relative and
+-- absolute starts.
 abbrev pub StaysSorted : Type 0
 StaysSorted = (s t : List ℕ) (rs : List Span) (used : ℕ) → AreBytes s → IsSortable s rs → SortOf s rs t (Sorted used) → SortOf t (used_span used ∷ []) t (Sorted used)
 
--- and it is valid
+-- the used bytes of a sorted section can be sorted again
 abbrev pub StaysValid : Type 0
 StaysValid = (s t : List ℕ) (rs : List Span) (used : ℕ) → AreBytes s → IsSortable s rs → SortOf s rs t (Sorted used) → IsSortable t (used_span used ∷ [])
 
@@ -29,29 +30,30 @@ StaysValid = (s t : List ℕ) (rs : List Span) (used : ℕ) → AreBytes s → I
 abbrev pub IsOnlySort : List ℕ → List Span → List ℕ → SframeOutcome → Type 0
 IsOnlySort s rs bytes outcome = (others : List ℕ) (end : SframeOutcome) → SortOf s rs others end → (others ≡ bytes) × (end ≡ outcome)
 
--- a section and its ranges are sorted in one way
+-- a section and its ranges have one result
 abbrev pub SortsInOneWay : Type 0
 SortsInOneWay = (s : List ℕ) (rs : List Span) (bytes : List ℕ) (outcome : SframeOutcome) → SortOf s rs bytes outcome → IsOnlySort s rs bytes outcome
 
--- every section and ranges have a sort, also where they are not valid
+-- every section and ranges have a result, also where they cannot be sorted
 abbrev pub EachHasSort : Type 0
 EachHasSort = (s : List ℕ) (rs : List Span) → (bytes : List ℕ) × (outcome : SframeOutcome) × SortOf s rs bytes outcome
 
--- every contribution is of version 2, and none has a descriptor
+-- every contribution is of version 2, and none has an FDE
 abbrev pub HasNoDescriptors : List ℕ → List Span → Type 0
 HasNoDescriptors s rs = (other_version s rs ≡ None) × All (λ c. (header c).num_fdes ≡ 0) (read_ones s rs)
 
--- the outcome is another version exactly where a contribution has one, and no descriptors exactly where there are none
+-- the outcome is OtherVersion exactly where a contribution has another version, and NoDescriptors exactly where
+-- there is no FDE
 abbrev pub OutcomesAreExact : Type 0
 OutcomesAreExact = (s : List ℕ) (rs : List Span) (bytes : List ℕ) (outcome : SframeOutcome) → SortOf s rs bytes outcome
     → ((v : ℕ) → (outcome ≡ OtherVersion v → other_version s rs ≡ Some v) × (other_version s rs ≡ Some v → outcome ≡ OtherVersion v))
     × (outcome ≡ NoDescriptors → HasNoDescriptors s rs)
     × (HasNoDescriptors s rs → outcome ≡ NoDescriptors)
 
--- a valid section is refused for want of memory alone
+-- a section that can be sorted fails only where memory runs out
 abbrev pub IsRefusedOnlyForMemory : Type 0
 IsRefusedOnlyForMemory = (s : List ℕ) (rs : List Span) (e : SframeFault) → IsSortable s rs → IsSortCause s rs e → e ≡ NoMemory
 
--- a section and its ranges have one cause of a refusal, want of memory aside
+-- a section and its ranges have one cause of an error, apart from out of memory
 abbrev pub HasOneSortCause : Type 0
 HasOneSortCause = (s : List ℕ) (rs : List Span) (e f : SframeFault) → e ≢ NoMemory → f ≢ NoMemory → IsSortCause s rs e → IsSortCause s rs f → e ≡ f
