@@ -9,14 +9,15 @@ use Rattle.sframe_format.specs.declared.fault.SframeOutcome.{SframeOutcome}
 use Rattle.derivation.specs.declared.error.DeriveError.{DeriveError}
 use Rattle.derivation.specs.declared.error.DeriveError.TheVariants as errors
 use Rattle.program_files.specs.declared.files_read.FilesRead.{FilesRead}
-use Rattle.program_text.specs.Layout.{Said, layout_of}
+use Rattle.program_text.specs.Layout.{LayoutEntries, layout_of}
 use Rattle.program_text.specs.Report.{report_of}
 use Rattle.derive_program.specs.declared.ran.Ran.{Ran}
 use Rattle.derive_program.specs.declared.ran.Ran.TheVariants.{Done, Refused, BadWords, BadLayout, ReadFault, FileTooLong, WriteFault, NoMemory}
-use Rattle.derive_program.specs.Answer.{program_input_of, IsAnswerFor, IsRefusalOf, HasReportFor}
-use Rattle.derive_program.specs.Cause.{HasCauseIn}
+use Rattle.derive_program.specs.Answer.{program_input_of, IsInputOfFiles, IsAnswerFor, IsRefusalOf}
+use Rattle.derive_program.specs.Calls.{write_faults_after}
+use Rattle.derive_program.specs.Cause.{HasCauseIn, HasReport, IsAttempted}
 use Rattle.derive_program.specs.ProgramInput.{ProgramInput, AreTablesOf, HasTables}
-use Rattle.derive_program.specs.Writing.{IsWritingOf}
+use Rattle.derive_program.specs.Writing.{Writes, IsSilent, IsPutOnce, IsWritingOf}
 
 -- an input of these parts
 abbrev pub input_with : Architecture → ℕ → List Placement → List Span → List ℕ → List Span → List ℕ → ProgramInput
@@ -49,56 +50,87 @@ report_named units names index index' sframe sframe' outcome outcome' i s o =
     ∙ ap (λ x. report_of units names outcome index' x) (sym s)
     ∙ ap (λ x. report_of units names x index' sframe') (sym o)
 
-pub after_writing : (machine : Architecture) (read : FilesRead) (layout : Said) (units : List CuBoundary) (names : List NameWords) (index sframe : List ℕ) (outcome : SframeOutcome) (steady : Bool) (faults faults_now : ℕ) (written now : Option (List ℕ)) (ran : Ran) → layout_of read.layout.items ≡ Ok layout → AreTablesOf (program_input_of machine read layout) units names index sframe outcome → ((error : DeriveError) → HasCauseIn (program_input_of machine read layout) error → ⊥) → IsWritingOf units names index sframe outcome steady faults faults_now written now ran → IsAnswerFor machine read steady faults faults_now written now ran
-after_writing machine read layout units names index sframe outcome steady faults faults_now written now (Done tables) laid are none (i, s, o, whole) = record {
+-- files with their layout are the input of their parts
+files_input : (machine : Architecture) (files : FilesRead) (layout : LayoutEntries) → layout_of files.layout.items ≡ Ok layout → IsInputOfFiles machine files (program_input_of machine files layout)
+files_input machine files layout laid = record { layout = layout; laid = laid; is = refl }
+
+-- the report of tables
+report_with : (machine : Architecture) (files : FilesRead) (layout : LayoutEntries) (units : List CuBoundary) (names : List NameWords) (index sframe : List ℕ) (outcome : SframeOutcome) → layout_of files.layout.items ≡ Ok layout → AreTablesOf (program_input_of machine files layout) units names index sframe outcome → ((error : DeriveError) → HasCauseIn (program_input_of machine files layout) error → ⊥) → HasReport (IsInputOfFiles machine files) index sframe outcome (report_of units names outcome index sframe)
+report_with machine files layout units names index sframe outcome laid are none = record {
+  input = program_input_of machine files layout;
+  read = files_input machine files layout laid;
+  units = units;
+  names = names;
+  tables = are;
+  no_cause = none;
+  report = refl;
+}
+
+-- there was no call, or one with the report
+calls_with : (machine : Architecture) (files : FilesRead) (units : List CuBoundary) (names : List NameWords) (index sframe : List ℕ) (outcome : SframeOutcome) (writes : Writes) → HasReport (IsInputOfFiles machine files) index sframe outcome (report_of units names outcome index sframe) → (writes.puts_now ≡ writes.puts) ⊎ IsPutOnce writes (report_of units names outcome index sframe) → (writes.puts_now ≡ writes.puts) ⊎ IsAttempted (IsInputOfFiles machine files) writes
+calls_with machine files units names index sframe outcome writes reported (inl none) = inl none
+calls_with machine files units names index sframe outcome writes reported (inr once) =
+    inr (record { index = index; sframe = sframe; outcome = outcome; text = report_of units names outcome index sframe; reported = reported; once = once })
+
+pub after_writing : (machine : Architecture) (files : FilesRead) (layout : LayoutEntries) (units : List CuBoundary) (names : List NameWords) (index sframe : List ℕ) (outcome : SframeOutcome) (writes : Writes) (ran : Ran) → layout_of files.layout.items ≡ Ok layout → AreTablesOf (program_input_of machine files layout) units names index sframe outcome → ((error : DeriveError) → HasCauseIn (program_input_of machine files layout) error → ⊥) → IsWritingOf units names index sframe outcome writes ran → IsAnswerFor machine files writes ran
+after_writing machine files layout units names index sframe outcome writes (Done tables) laid are none (i, s, o, put) = record {
   text = report_of units names outcome index sframe;
   reported = record {
-    layout = layout;
-    laid = laid;
+    input = program_input_of machine files layout;
+    read = files_input machine files layout laid;
     units = units;
     names = names;
-    tables = tables_named (program_input_of machine read layout) units names _ _ _ _ _ _ i s o are;
+    tables = tables_named (program_input_of machine files layout) units names _ _ _ _ _ _ i s o are;
     no_cause = none;
     report = report_named units names _ _ _ _ _ _ i s o;
   };
-  whole = whole;
+  put = put;
 }
-after_writing machine read layout units names index sframe outcome steady faults faults_now written now WriteFault laid are none (rose, never, (n, front)) = (
-  rose,
-  never,
-  record {
-    index = index;
-    sframe = sframe;
-    outcome = outcome;
-    text = report_of units names outcome index sframe;
-    reported = record { layout = layout; laid = laid; units = units; names = names; tables = are; no_cause = none; report = refl };
-    count = n;
-    front = front;
-  },
-)
-after_writing machine read layout units names index sframe outcome steady faults faults_now written now NoMemory laid are none same = same
-after_writing machine read layout units names index sframe outcome steady faults faults_now written now (Refused error) laid are none never = absurd never
-after_writing machine read layout units names index sframe outcome steady faults faults_now written now (BadWords place) laid are none never = absurd never
-after_writing machine read layout units names index sframe outcome steady faults faults_now written now (BadLayout line) laid are none never = absurd never
-after_writing machine read layout units names index sframe outcome steady faults faults_now written now (ReadFault place) laid are none never = absurd never
-after_writing machine read layout units names index sframe outcome steady faults faults_now written now (FileTooLong place) laid are none never = absurd never
+after_writing machine files layout units names index sframe outcome writes WriteFault laid are none put = record {
+  index = index;
+  sframe = sframe;
+  outcome = outcome;
+  text = report_of units names outcome index sframe;
+  reported = report_with machine files layout units names index sframe outcome laid are none;
+  put = put;
+}
+after_writing machine files layout units names index sframe outcome writes NoMemory laid are none (same, calls) = record {
+  written = same;
+  calls = calls_with machine files units names index sframe outcome writes (report_with machine files layout units names index sframe outcome laid are none) calls;
+}
+after_writing machine files layout units names index sframe outcome writes (Refused error) laid are none never = absurd never
+after_writing machine files layout units names index sframe outcome writes (BadWords k) laid are none never = absurd never
+after_writing machine files layout units names index sframe outcome writes (BadLayout line) laid are none never = absurd never
+after_writing machine files layout units names index sframe outcome writes (ReadFault k) laid are none never = absurd never
+after_writing machine files layout units names index sframe outcome writes (FileTooLong k) laid are none never = absurd never
 
-pub after_refusal : (machine : Architecture) (read : FilesRead) (layout : Said) (error : DeriveError) (steady : Bool) (faults faults_now : ℕ) (written now : Option (List ℕ)) (ran : Ran) → layout_of read.layout.items ≡ Ok layout → (error ≡ errors.NoMemory) ⊎ HasCauseIn (program_input_of machine read layout) error → (HasTables (program_input_of machine read layout) → error ≡ errors.NoMemory) → ((other : DeriveError) → HasCauseIn (program_input_of machine read layout) other → (error ≡ other) ⊎ (error ≡ errors.NoMemory)) → now ≡ written → IsRefusalOf error ran → IsAnswerFor machine read steady faults faults_now written now ran
-after_refusal machine read layout error steady faults faults_now written now (Refused answered) laid cause complete exact same (is, not_memory) = (
+pub after_refusal : (machine : Architecture) (files : FilesRead) (layout : LayoutEntries) (error : DeriveError) (writes : Writes) (ran : Ran) → layout_of files.layout.items ≡ Ok layout → (error ≡ errors.NoMemory) ⊎ HasCauseIn (program_input_of machine files layout) error → (HasTables (program_input_of machine files layout) → error ≡ errors.NoMemory) → ((other : DeriveError) → HasCauseIn (program_input_of machine files layout) other → (error ≡ other) ⊎ (error ≡ errors.NoMemory)) → IsSilent writes → IsRefusalOf error ran → IsAnswerFor machine files writes ran
+after_refusal machine files layout error writes (Refused answered) laid cause complete exact silent (is, not_memory) = (
   record {
-    layout = layout;
-    laid = laid;
-    cause = let P : DeriveError → Type 0 = λ e. HasCauseIn (program_input_of machine read layout) e in elim cause [ inl memory ↦ absurd (not_memory memory) | inr other ↦ subst P (sym is) other ];
+    input = program_input_of machine files layout;
+    read = files_input machine files layout laid;
+    cause = let P : DeriveError → Type 0 = λ e. HasCauseIn (program_input_of machine files layout) e in elim cause [ inl memory ↦ absurd (not_memory memory) | inr other ↦ subst P (sym is) other ];
     not_memory = λ e. not_memory (sym is ∙ e);
     only = λ other has. elim (exact other has) [ inl e ↦ sym e ∙ sym is | inr e ↦ absurd (not_memory e) ];
     no_tables = λ has. not_memory (complete has);
   },
-  same,
+  silent,
 )
-after_refusal machine read layout error steady faults faults_now written now NoMemory laid cause complete exact same is = same
-after_refusal machine read layout error steady faults faults_now written now (Done tables) laid cause complete exact same never = absurd never
-after_refusal machine read layout error steady faults faults_now written now WriteFault laid cause complete exact same never = absurd never
-after_refusal machine read layout error steady faults faults_now written now (BadWords place) laid cause complete exact same never = absurd never
-after_refusal machine read layout error steady faults faults_now written now (BadLayout line) laid cause complete exact same never = absurd never
-after_refusal machine read layout error steady faults faults_now written now (ReadFault place) laid cause complete exact same never = absurd never
-after_refusal machine read layout error steady faults faults_now written now (FileTooLong place) laid cause complete exact same never = absurd never
+after_refusal machine files layout error writes NoMemory laid cause complete exact silent is = record { written = silent.written; calls = inl silent.puts }
+after_refusal machine files layout error writes (Done tables) laid cause complete exact silent never = absurd never
+after_refusal machine files layout error writes WriteFault laid cause complete exact silent never = absurd never
+after_refusal machine files layout error writes (BadWords k) laid cause complete exact silent never = absurd never
+after_refusal machine files layout error writes (BadLayout line) laid cause complete exact silent never = absurd never
+after_refusal machine files layout error writes (ReadFault k) laid cause complete exact silent never = absurd never
+after_refusal machine files layout error writes (FileTooLong k) laid cause complete exact silent never = absurd never
+
+-- a refusal counts no fault of the sink
+pub refusal_counts : (error : DeriveError) (ran : Ran) (before : ℕ) → IsRefusalOf error ran → before ≡ write_faults_after ran before
+refusal_counts error (Refused answered) before is = refl
+refusal_counts error NoMemory before is = refl
+refusal_counts error (Done tables) before is = refl
+refusal_counts error WriteFault before never = absurd never
+refusal_counts error (BadWords k) before is = refl
+refusal_counts error (BadLayout line) before is = refl
+refusal_counts error (ReadFault k) before is = refl
+refusal_counts error (FileTooLong k) before is = refl

@@ -1,42 +1,42 @@
 -- From the answer for the files that were read to the answer of the whole run.
-use Rattle.std.proofs.Common.{◌≡◌, ◌≢◌, ℕ, ◌++◌, Bool, true, false, List, length, take, Option, Some, None, IfSome, option_map, Result, Ok, Err, IsTrue, refl, sym, ap, subst, ◌∙◌, inl, inr}
+use Rattle.std.proofs.Common.{◌≡◌, ◌≢◌, ℕ, ◌++◌, Bool, true, false, List, length, take, Option, Some, None, IfSome, option_map, Result, Ok, Err, IsTrue, refl, sym, ap, subst, ◌∙◌, ◌⊎◌, inl, inr}
+use Rattle.std.proofs.Math.Seq.{take-length}
+use Rattle.sframe_format.specs.declared.fault.SframeOutcome.{SframeOutcome}
 use Rattle.elf_format.specs.declared.architecture.Architecture.{Architecture}
 use Rattle.elf_format.specs.declared.index.Span.{Span}
 use Rattle.elf_format.specs.Span.{AreInside}
-use Rattle.derivation.specs.declared.error.DeriveError.{DeriveError}
-use Rattle.derivation.specs.declared.error.DeriveError.TheVariants as errors
-use Rattle.derivation.proofs.Phases.{no_bad_span}
 use Rattle.program_files.specs.declared.files_read.FilesRead.{FilesRead}
-use Rattle.program_files.specs.Reading.{texts_read, read_of}
+use Rattle.program_files.specs.declared.error.ReadError.{ReadError}
+use Rattle.program_files.specs.declared.error.ReadError.TheVariants as read
+use Rattle.program_files.specs.Reading.{texts_read, read_of, file_names, HasRead, faults_after_reading}
 use Rattle.program_io.specs.Contents.{Contents}
 use Rattle.program_text.specs.Command.{Tables, command_of}
-use Rattle.program_text.specs.Layout.{Said, layout_of}
+use Rattle.program_text.specs.Layout.{LayoutEntries, layout_of}
 use Rattle.derive_program.specs.declared.ran.Ran.{Ran}
 use Rattle.derive_program.specs.declared.ran.Ran.TheVariants.{Done, Refused, BadWords, BadLayout, ReadFault, FileTooLong, WriteFault, NoMemory}
-use Rattle.derive_program.specs.Answer.{program_input_of, IsAnswerFor, HasReportFor}
-use Rattle.derive_program.specs.Cause.{HasCauseIn, HasReport, Reads, Writes, IsRunOf}
-use Rattle.derive_program.specs.ProgramInput.{ProgramInput, IsInputOf, derived_from}
+use Rattle.derive_program.specs.Answer.{IsInputOfFiles, IsAnswerFor, ran_of_reading}
+use Rattle.derive_program.specs.Calls.{HasReadFor, HasReadOf, read_faults_after, write_faults_after}
+use Rattle.derive_program.specs.Cause.{HasReport, IsAttempted, Reads, IsRunOf}
+use Rattle.derive_program.specs.ProgramInput.{ProgramInput, IsInputOf}
+use Rattle.derive_program.specs.Writing.{Writes}
 
-not_span : (input : ProgramInput) (error : DeriveError) → HasCauseIn input error → AreInside (length input.buffer) input.objects → (place : ℕ) → error ≢ errors.BadSpan place
-not_span input error cause inside place is =
-    let P : DeriveError → Type 0 = λ e. HasCauseIn input e in
-    no_bad_span (derived_from input) place inside (subst P is cause)
+-- files that a command's arguments name, as an input of the arguments
+input_read : (held : Contents) (words : List (List ℕ)) (command : Tables) (files : FilesRead) → command_of words ≡ Ok command → IfSome held (λ contents. read_of contents command ≡ Ok (texts_read files)) → AreInside (length files.buffer.items) files.objects.items → (input : ProgramInput) → IsInputOfFiles command.machine files input → IsInputOf held words input
+input_read held words command files said known inside input of =
+    subst (IsInputOf held words) (sym of.is) (record {
+      command = command;
+      said = said;
+      machine = refl;
+      text = files.layout.items;
+      read = known;
+      laid = of.laid;
+      inside = inside;
+    })
 
--- the input that files are is that of the words
-input_of_words : (held : Contents) (words : List (List ℕ)) (command : Tables) (read : FilesRead) (layout : Said) → command_of words ≡ Ok command → IfSome held (λ files. read_of files command ≡ Ok (texts_read read)) → layout_of read.layout.items ≡ Ok layout → IsInputOf held words (program_input_of command.machine read layout)
-input_of_words held words command read layout said told laid = record {
-  command = command;
-  said = said;
-  machine = refl;
-  text = read.layout.items;
-  read = told;
-  laid = laid;
-}
-
-report_of_words : (held : Contents) (words : List (List ℕ)) (command : Tables) (read : FilesRead) (index sframe text : List ℕ) (outcome : _) → command_of words ≡ Ok command → IfSome held (λ files. read_of files command ≡ Ok (texts_read read)) → HasReportFor command.machine read index sframe outcome text → HasReport held words index sframe outcome text
-report_of_words held words command read index sframe text outcome said told reported = record {
-  input = program_input_of command.machine read reported.layout;
-  read = input_of_words held words command read reported.layout said told reported.laid;
+report_as : (Of To : ProgramInput → Type 0) (index sframe text : List ℕ) (outcome : SframeOutcome) → ((input : ProgramInput) → Of input → To input) → HasReport Of index sframe outcome text → HasReport To index sframe outcome text
+report_as Of To index sframe text outcome as reported = record {
+  input = reported.input;
+  read = as reported.input reported.read;
   units = reported.units;
   names = reported.names;
   tables = reported.tables;
@@ -44,49 +44,116 @@ report_of_words held words command read index sframe text outcome said told repo
   report = reported.report;
 }
 
-pub run_of_answer : (words : List (List ℕ)) (reads : Reads) (writes : Writes) (command : Tables) (read : FilesRead) (ran : Ran) → command_of words ≡ Ok command → IfSome reads.held (λ files. read_of files command ≡ Ok (texts_read read)) → AreInside (length read.buffer.items) read.objects.items → IsAnswerFor command.machine read writes.steady writes.faults writes.faults_now writes.written writes.now ran → IsRunOf words reads writes ran
-run_of_answer words reads writes command read (Done tables) said told inside reported = record {
-  text = reported.text;
-  reported = report_of_words reads.held words command read _ _ _ _ said told reported.reported;
-  whole = reported.whole;
+calls_as : (Of To : ProgramInput → Type 0) (writes : Writes) → ((input : ProgramInput) → Of input → To input) → (writes.puts_now ≡ writes.puts) ⊎ IsAttempted Of writes → (writes.puts_now ≡ writes.puts) ⊎ IsAttempted To writes
+calls_as Of To writes as (inl none) = inl none
+calls_as Of To writes as (inr put) = inr (record {
+  index = put.index;
+  sframe = put.sframe;
+  outcome = put.outcome;
+  text = put.text;
+  reported = report_as Of To _ _ _ _ as put.reported;
+  once = put.once;
+})
+
+pub run_of_answer : (words : List (List ℕ)) (reads : Reads) (writes : Writes) (command : Tables) (files : FilesRead) (ran : Ran) → command_of words ≡ Ok command → IfSome reads.held (λ contents. read_of contents command ≡ Ok (texts_read files)) → AreInside (length files.buffer.items) files.objects.items → IsAnswerFor command.machine files writes ran → IsRunOf words reads writes ran
+run_of_answer words reads writes command files (Done tables) said known inside cause = record {
+  text = cause.text;
+  reported = report_as _ _ _ _ _ _ (input_read reads.held words command files said known inside) cause.reported;
+  put = cause.put;
 }
-run_of_answer words reads writes command read (Refused error) said told inside (refused, same) = (
+run_of_answer words reads writes command files (Refused error) said known inside (cause, silent) = (
   record {
-    input = program_input_of command.machine read refused.layout;
-    read = input_of_words reads.held words command read refused.layout said told refused.laid;
-    inside = inside;
-    cause = refused.cause;
-    not_span = not_span (program_input_of command.machine read refused.layout) error refused.cause inside;
-    not_memory = refused.not_memory;
-    only = refused.only;
-    no_tables = refused.no_tables;
+    input = cause.input;
+    read = input_read reads.held words command files said known inside cause.input cause.read;
+    cause = cause.cause;
+    not_memory = cause.not_memory;
+    only = cause.only;
+    no_tables = cause.no_tables;
   },
-  same,
+  silent,
 )
-run_of_answer words reads writes command read (BadLayout line) said told inside (wrong, same) = (
+run_of_answer words reads writes command files (BadLayout line) said known inside (wrong, silent) = (
   record {
     command = command;
     said = said;
-    texts = texts_read read;
-    read = told;
+    texts = texts_read files;
+    read = known;
     wrong = wrong;
   },
-  same,
+  silent,
 )
-run_of_answer words reads writes command read WriteFault said told inside (rose, never, cut) = (
-  rose,
-  never,
-  record {
-    index = cut.index;
-    sframe = cut.sframe;
-    outcome = cut.outcome;
-    text = cut.text;
-    reported = report_of_words reads.held words command read _ _ _ _ said told cut.reported;
-    count = cut.count;
-    front = cut.front;
-  },
+run_of_answer words reads writes command files WriteFault said known inside cause = record {
+  index = cause.index;
+  sframe = cause.sframe;
+  outcome = cause.outcome;
+  text = cause.text;
+  reported = report_as _ _ _ _ _ _ (input_read reads.held words command files said known inside) cause.reported;
+  put = cause.put;
+}
+run_of_answer words reads writes command files NoMemory said known inside cause = (
+  (command, said),
+  record { written = cause.written; calls = calls_as _ _ writes (input_read reads.held words command files said known inside) cause.calls },
 )
-run_of_answer words reads writes command read NoMemory said told inside same = ((command, said), same)
-run_of_answer words reads writes command read (BadWords place) said told inside never = absurd never
-run_of_answer words reads writes command read (ReadFault place) said told inside never = absurd never
-run_of_answer words reads writes command read (FileTooLong place) said told inside never = absurd never
+run_of_answer words reads writes command files (BadWords k) said known inside never = absurd never
+run_of_answer words reads writes command files (ReadFault k) said known inside never = absurd never
+run_of_answer words reads writes command files (FileTooLong k) said known inside never = absurd never
+
+-- what was read for a command, as it was read for its arguments
+read_for : (result : Result Tables ℕ) (command : Tables) (old new : List (List ℕ)) (ran : Ran) → result ≡ Ok command → HasReadFor command old new ran → HasReadOf result old new ran
+read_for result command old new ran said has = let P : Result Tables ℕ → Type 0 = λ r. HasReadOf r old new ran in subst P (sym said) has
+
+-- all files were read for an answer that comes after the reading
+after_reading : (machine : Architecture) (files : FilesRead) (writes : Writes) (command : Tables) (old new : List (List ℕ)) (ran : Ran) → new ≡ old ++ file_names command → IsAnswerFor machine files writes ran → HasReadFor command old new ran
+after_reading machine files writes command old new (Done tables) all cause = all
+after_reading machine files writes command old new (Refused error) all cause = all
+after_reading machine files writes command old new (BadLayout line) all cause = all
+after_reading machine files writes command old new WriteFault all cause = all
+after_reading machine files writes command old new NoMemory all cause =
+    (length (file_names command), all ∙ ap (λ (l : List (List ℕ)). old ++ l) (sym (take-length (file_names command))))
+after_reading machine files writes command old new (BadWords k) all never = absurd never
+after_reading machine files writes command old new (ReadFault k) all never = absurd never
+after_reading machine files writes command old new (FileTooLong k) all never = absurd never
+
+pub reads_after : (machine : Architecture) (files : FilesRead) (writes : Writes) (result : Result Tables ℕ) (command : Tables) (old new : List (List ℕ)) (ran : Ran) → result ≡ Ok command → new ≡ old ++ file_names command → IsAnswerFor machine files writes ran → HasReadOf result old new ran
+reads_after machine files writes result command old new ran said all cause =
+    read_for result command old new ran said (after_reading machine files writes command old new ran all cause)
+
+-- no read failed where the files were read
+pub counted_after : (machine : Architecture) (files : FilesRead) (writes : Writes) (before now : ℕ) (ran : Ran) → now ≡ before → IsAnswerFor machine files writes ran → now ≡ read_faults_after ran before
+counted_after machine files writes before now (Done tables) same cause = same
+counted_after machine files writes before now (Refused error) same cause = same
+counted_after machine files writes before now (BadLayout line) same cause = same
+counted_after machine files writes before now WriteFault same cause = same
+counted_after machine files writes before now NoMemory same cause = same
+counted_after machine files writes before now (BadWords k) same cause = same
+counted_after machine files writes before now (ReadFault k) same never = absurd never
+counted_after machine files writes before now (FileTooLong k) same cause = same
+
+-- the reading that an error ended
+error_reads : {T : Type 0} (command : Tables) (old new : List (List ℕ)) (error : ReadError) → HasRead command old new (let r : Result T ReadError = Err error in r) → HasReadFor command old new (ran_of_reading error)
+error_reads command old new (read.Unread k) has = has
+error_reads command old new (read.TooLong k) has = has
+error_reads command old new read.NoMemory has = has
+
+pub reads_at_error : (T : Type 0) (result : Result Tables ℕ) (command : Tables) (old new : List (List ℕ)) (error : ReadError) (ran : Ran) → result ≡ Ok command → ran ≡ ran_of_reading error → HasRead command old new (let r : Result T ReadError = Err error in r) → HasReadOf result old new ran
+reads_at_error T result command old new error ran said is has =
+    let P : Ran → Type 0 = λ r. HasReadFor command old new r in
+    read_for result command old new ran said (subst P (sym is) (error_reads {T = T} command old new error has))
+
+error_counts : {T : Type 0} (before : ℕ) (error : ReadError) → faults_after_reading (let r : Result T ReadError = Err error in r) before ≡ read_faults_after (ran_of_reading error) before
+error_counts before (read.Unread k) = refl
+error_counts before (read.TooLong k) = refl
+error_counts before read.NoMemory = refl
+
+pub counted_at_error : (T : Type 0) (before now : ℕ) (error : ReadError) (ran : Ran) → ran ≡ ran_of_reading error → now ≡ faults_after_reading (let r : Result T ReadError = Err error in r) before → now ≡ read_faults_after ran before
+counted_at_error T before now error ran is counts =
+    counts ∙ error_counts {T = T} before error ∙ ap (λ r. read_faults_after r before) (sym is)
+
+silent_error : (before : ℕ) (error : ReadError) → before ≡ write_faults_after (ran_of_reading error) before
+silent_error before (read.Unread k) = refl
+silent_error before (read.TooLong k) = refl
+silent_error before read.NoMemory = refl
+
+-- an error of reading counts no fault of the sink
+pub silent_counts : (before : ℕ) (error : ReadError) (ran : Ran) → ran ≡ ran_of_reading error → before ≡ write_faults_after ran before
+silent_counts before error ran is = silent_error before error ∙ ap (λ r. write_faults_after r before) (sym is)

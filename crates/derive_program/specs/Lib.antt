@@ -1,5 +1,6 @@
 pub mod Answer
+pub mod Calls
 pub mod Cause
-pub mod Input
+pub mod ProgramInput
 pub mod Status
 pub mod Writing

@@ -1,15 +1,15 @@
-//! The line that the program prints for an answer: `derive: `, the name of the variant, and its numbers in order.
+//! The line that the program prints for an answer on standard error: `derive: `, the name of the variant, and its numbers in order.
 
 use crate::Ran;
 use derivation::DeriveError;
 use std::fmt;
 
-/// Prints an error of the tables, as `BadUnit 0 12 Truncated`.
+/// Writes an error of the tables, as `BadUnit 0 12 Truncated`.
 fn write_error<W: fmt::Write>(f: &mut fmt::Formatter<W>, error: &DeriveError) -> fmt::Result {
     match error {
-        DeriveError::BadSpan(place) => write!(f, "BadSpan {place}"),
+        DeriveError::BadSpan(index) => write!(f, "BadSpan {index}"),
         DeriveError::BadElf(object, kind) => write!(f, "BadElf {object} {kind:?}"),
-        DeriveError::BadPlacement(place) => write!(f, "BadPlacement {place}"),
+        DeriveError::BadPlacement(index) => write!(f, "BadPlacement {index}"),
         DeriveError::CompressedSection(object, section) => {
             write!(f, "CompressedSection {object} {}", section.0)
         }
@@ -23,7 +23,7 @@ fn write_error<W: fmt::Write>(f: &mut fmt::Formatter<W>, error: &DeriveError) ->
         }
         DeriveError::TooManyUnits(count) => write!(f, "TooManyUnits {count}"),
         DeriveError::IndexTooLarge(size) => write!(f, "IndexTooLarge {size}"),
-        DeriveError::BadRange(place) => write!(f, "BadRange {place}"),
+        DeriveError::BadRange(index) => write!(f, "BadRange {index}"),
         DeriveError::BadMagicBytes { value, offset } => {
             write!(f, "BadMagicBytes {value} {offset}")
         }
@@ -48,10 +48,10 @@ impl fmt::Display for Ran {
         match self {
             Ran::Done(_) => write!(f, "Done"),
             Ran::Refused(error) => write_error(f, error),
-            Ran::BadWords(place) => write!(f, "BadWords {place}"),
+            Ran::BadWords(index) => write!(f, "BadWords {index}"),
             Ran::BadLayout(line) => write!(f, "BadLayout {line}"),
-            Ran::ReadFault(place) => write!(f, "ReadFault {place}"),
-            Ran::FileTooLong(place) => write!(f, "FileTooLong {place}"),
+            Ran::ReadFault(index) => write!(f, "ReadFault {index}"),
+            Ran::FileTooLong(index) => write!(f, "FileTooLong {index}"),
             Ran::WriteFault => write!(f, "WriteFault"),
             Ran::NoMemory => write!(f, "NoMemory"),
         }

@@ -3,6 +3,7 @@ ghost use Rattle.std.specs.Prelude.{◌≡◌};
 ghost use Rattle.derive_program.specs.Status.{status_of};
 
 use derivation::DeriveError;
+use program_files::ReadError;
 use sframe_format::SframeOutcome;
 
 /// The tables that were derived.
@@ -16,29 +17,56 @@ pub struct Tables {
     pub outcome: SframeOutcome,
 }
 
-/// What the program answers. Places of words count from 0, without the program's name; lines of the layout count from 1.
+/// What the program answers. Indexes of arguments count from 0, without the program's name; lines of the layout count from 1.
 #[derive(Debug, Drop)]
 pub enum Ran {
     /// The tables were derived, and their report was written.
     Done(Tables),
     /// The input has no tables.
     Refused(DeriveError),
-    /// The word at this place is wrong or missing, and none before it is.
+    /// The argument at this index is wrong or missing, and none before it is: a usage error.
     BadWords(usize),
-    /// This line of the layout is wrong, and none before it is.
+    /// This line of the layout is malformed or a second base, and none before it is.
     BadLayout(u64),
-    /// The file of the word at this place was not read.
+    /// The file of the argument at this index was not read.
     ReadFault(usize),
-    /// The file of the word at this place is longer than the limit left for it.
+    /// The file of the argument at this index is longer than the limit left for it.
     FileTooLong(usize),
     /// The report was not written whole.
     WriteFault,
-    /// There was no memory.
+    /// An allocation failed.
     NoMemory,
 }
 
+impl From<ReadError> for Ran {
+    ghost use Rattle.derive_program.specs.Answer.{ran_of_reading};
+
+    ghost from_gives = { λ error ran. ran ≡ ran_of_reading error };
+
+    fn from(error: ReadError) -> Self {
+        match error {
+            ReadError::Unread(index) => Ran::ReadFault(index),
+            ReadError::TooLong(index) => Ran::FileTooLong(index),
+            ReadError::NoMemory => Ran::NoMemory,
+        }
+    }
+}
+
+impl From<DeriveError> for Ran {
+    ghost use Rattle.derive_program.specs.Answer.{IsRefusalOf};
+
+    ghost from_gives = { λ error ran. IsRefusalOf error ran };
+
+    fn from(error: DeriveError) -> Self {
+        match error {
+            DeriveError::NoMemory => Ran::NoMemory,
+            other => Ran::Refused(other),
+        }
+    }
+}
+
 impl Ran {
-    /// The exit status of the program.
+    /// Returns the exit status of the program.
     pub fn status(&self) -> u8
         ensures { result ≡ status_of self.now }
     {

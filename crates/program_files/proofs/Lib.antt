@@ -1,3 +1,4 @@
 pub mod JoinedLemmas
+pub mod NameLemmas
 pub mod ObjectLemmas
 pub mod ReadLemmas

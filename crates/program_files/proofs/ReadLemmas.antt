@@ -6,7 +6,7 @@ use Rattle.program_files.specs.declared.error.ReadError.{ReadError}
 use Rattle.elf_format.specs.declared.index.Span.{Span}
 use Rattle.elf_format.specs.Span.{AreInside, span_bytes}
 use Rattle.program_files.specs.Joined.{joined}
-use Rattle.program_files.specs.Reading.{Held, Texts, file_limit, within, sframe_of, objects_of, texts_of, read_of, AreObjectsRead}
+use Rattle.program_files.specs.Reading.{Held, Texts, file_limit, within, sframe_of, object_texts, texts_of, read_of, AreObjectsRead}
 use Rattle.program_files.proofs.JoinedLemmas.{texts_again, length-spans_from, spans_inside}
 
 -- the error, or another where there is none
@@ -37,27 +37,27 @@ sframe_error held held_then tables layout error same layout_is sframe_is = at he
     at : (held : Contents) → IfSome held (λ files. within 2 file_limit (file_of files tables.layout) ≡ Ok layout) → IfSome held (λ files. sframe_of files tables.sframe ≡ Err error) → IfSome held (λ files. read_of files tables ≡ Err error)
     at None layout_is sframe_is = tt
     at (Some files) layout_is sframe_is =
-        ap (λ (r : Result (List ℕ) ReadError). texts_of r (sframe_of files tables.sframe) (objects_of files (first_object tables.sframe) file_limit tables.objects)) layout_is
-        ∙ ap (λ (r : Result (List ℕ) ReadError). texts_of (Ok layout) r (objects_of files (first_object tables.sframe) file_limit tables.objects)) sframe_is
+        ap (λ (r : Result (List ℕ) ReadError). texts_of r (sframe_of files tables.sframe) (object_texts files (first_object tables.sframe) file_limit tables.objects)) layout_is
+        ∙ ap (λ (r : Result (List ℕ) ReadError). texts_of (Ok layout) r (object_texts files (first_object tables.sframe) file_limit tables.objects)) sframe_is
 
 -- what the objects give settles the rest, where the layout and the SFrame bytes were read
-pub objects_settle : (held held_then held_last : Contents) (tables : Tables) (first : ℕ) (layout sframe : List ℕ) (objects : Result (List (List ℕ)) ReadError) → held_then ≡ held → held_last ≡ held_then → first ≡ first_object tables.sframe → IfSome held (λ files. within 2 file_limit (file_of files tables.layout) ≡ Ok layout) → IfSome held_then (λ files. sframe_of files tables.sframe ≡ Ok sframe) → IfSome held_last (λ files. objects_of files first file_limit tables.objects ≡ objects) → IfSome held (λ files. read_of files tables ≡ texts_of (Ok layout) (Ok sframe) objects)
+pub objects_settle : (held held_then held_last : Contents) (tables : Tables) (first : ℕ) (layout sframe : List ℕ) (objects : Result (List (List ℕ)) ReadError) → held_then ≡ held → held_last ≡ held_then → first ≡ first_object tables.sframe → IfSome held (λ files. within 2 file_limit (file_of files tables.layout) ≡ Ok layout) → IfSome held_then (λ files. sframe_of files tables.sframe ≡ Ok sframe) → IfSome held_last (λ files. object_texts files first file_limit tables.objects ≡ objects) → IfSome held (λ files. read_of files tables ≡ texts_of (Ok layout) (Ok sframe) objects)
 objects_settle held held_then held_last tables first layout sframe objects same same_last first-is layout_is sframe_is objects_is =
     at held layout_is (told_then held held_then _ same sframe_is) (told_then held held_last _ (same_last ∙ same) objects_is)
   where
-    at : (held : Contents) → IfSome held (λ files. within 2 file_limit (file_of files tables.layout) ≡ Ok layout) → IfSome held (λ files. sframe_of files tables.sframe ≡ Ok sframe) → IfSome held (λ files. objects_of files first file_limit tables.objects ≡ objects) → IfSome held (λ files. read_of files tables ≡ texts_of (Ok layout) (Ok sframe) objects)
+    at : (held : Contents) → IfSome held (λ files. within 2 file_limit (file_of files tables.layout) ≡ Ok layout) → IfSome held (λ files. sframe_of files tables.sframe ≡ Ok sframe) → IfSome held (λ files. object_texts files first file_limit tables.objects ≡ objects) → IfSome held (λ files. read_of files tables ≡ texts_of (Ok layout) (Ok sframe) objects)
     at None layout_is sframe_is objects_is = tt
     at (Some files) layout_is sframe_is objects_is =
-        ap (λ (r : Result (List ℕ) ReadError). texts_of r (sframe_of files tables.sframe) (objects_of files (first_object tables.sframe) file_limit tables.objects)) layout_is
-        ∙ ap (λ (r : Result (List ℕ) ReadError). texts_of (Ok layout) r (objects_of files (first_object tables.sframe) file_limit tables.objects)) sframe_is
-        ∙ ap (λ n. texts_of (Ok layout) (Ok sframe) (objects_of files n file_limit tables.objects)) (sym first-is)
+        ap (λ (r : Result (List ℕ) ReadError). texts_of r (sframe_of files tables.sframe) (object_texts files (first_object tables.sframe) file_limit tables.objects)) layout_is
+        ∙ ap (λ (r : Result (List ℕ) ReadError). texts_of (Ok layout) r (object_texts files (first_object tables.sframe) file_limit tables.objects)) sframe_is
+        ∙ ap (λ n. texts_of (Ok layout) (Ok sframe) (object_texts files n file_limit tables.objects)) (sym first-is)
         ∙ ap (λ (r : Result (List (List ℕ)) ReadError). texts_of (Ok layout) (Ok sframe) r) objects_is
 
-pub sframe_place : (tables : Tables) (place : ℕ) → place ≡ 4 → IsSome tables.sframe → NamesFile tables place
-sframe_place tables place is some = inr (inl (is, some))
+pub sframe_index : (tables : Tables) (index : ℕ) → index ≡ 4 → IsSome tables.sframe → NamesFile tables index
+sframe_index tables index is some = inr (inl (is, some))
 
-pub object_place : (tables : Tables) (first count place : ℕ) → first ≡ first_object tables.sframe → length tables.objects ≡ count → first ≤ place → place < first + count → NamesFile tables place
-object_place tables first count place first-is count-is low high = inr (inr (omega (arith, first-is), omega (arith, first-is, count-is)))
+pub object_index : (tables : Tables) (first count index : ℕ) → first ≡ first_object tables.sframe → length tables.objects ≡ count → first ≤ index → index < first + count → NamesFile tables index
+object_index tables first count index first-is count-is low high = inr (inr (omega (arith, first-is), omega (arith, first-is, count-is)))
 
 -- what is told of files is told in equal words
 told_as : (held : Contents) (tables : Tables) (texts same : Result Texts ReadError) → texts ≡ same → IfSome held (λ files. read_of files tables ≡ texts) → IfSome held (λ files. read_of files tables ≡ same)
@@ -76,7 +76,7 @@ all_read held held_then held_last tables first layout bytes sframe buffer spans 
     told_as held tables _ _
     (ap (λ (l : List ℕ). let t : Result Texts ReadError = Ok (record { layout = l; sframe = sframe; objects = read.texts }) in t) (sym layout-is)
     ∙ ap (λ (ts : List (List ℕ)). let t : Result Texts ReadError = Ok (record { layout = layout; sframe = sframe; objects = ts }) in t) (sym (texts_are held_last first tables.objects buffer spans read)))
-    (objects_settle held held_then held_last tables first bytes sframe _ same same_last first-is layout_is sframe_is read.told)
+    (objects_settle held held_then held_last tables first bytes sframe _ same same_last first-is layout_is sframe_is read.known)
 
 pub spans_counted : (held : Contents) (first count : ℕ) (names : List (List ℕ)) (buffer : List ℕ) (spans : List Span) → length names ≡ count → AreObjectsRead held first names buffer spans → length spans ≡ count
 spans_counted held first count names buffer spans count-is read =

@@ -1,13 +1,13 @@
--- What the files of a command give, in the order of its words, where the files are told.
-use Rattle.std.specs.Prelude.{◌≡◌, ℕ, ◌+◌, ◌-◌, ◌^◌, ◌≤◌, List, [], ◌∷◌, ◌++◌, length, IfSome, map, if◌then◌else◌, nat_lt, Option, Some, None, Result, Ok, Err}
+-- What the files of a command hold, in the order of its arguments, where the files are known; and which of them were read.
+use Rattle.std.specs.Prelude.{◌≡◌, ℕ, ◌+◌, ◌-◌, ◌^◌, ◌≤◌, List, [], ◌∷◌, ◌++◌, length, take, IfSome, map, if◌then◌else◌, nat_lt, Option, Some, None, Result, Ok, Err}
 use Rattle.program_io.specs.Contents.{Contents, file_of}
-use Rattle.program_io.specs.Counting.{RoseBy}
+use Rattle.program_io.specs.Counting.{RoseBy, counted}
 use Rattle.program_text.specs.Command.{Tables, first_object}
 use Rattle.elf_format.specs.declared.index.Span.{Span}
 use Rattle.elf_format.specs.Span.{span_bytes}
 use Rattle.program_files.specs.Joined.{joined, spans_from}
 use Rattle.program_files.specs.declared.error.ReadError.{ReadError}
-use Rattle.program_files.specs.declared.error.ReadError.TheVariants.{Unread, TooLong}
+use Rattle.program_files.specs.declared.error.ReadError.TheVariants.{Unread, TooLong, NoMemory}
 use Rattle.program_files.specs.declared.files_read.FilesRead.{FilesRead}
 
 -- names with the bytes of their files
@@ -24,12 +24,12 @@ pub record Texts : Type 0 where
   pub sframe : List ℕ
   pub objects : List (List ℕ)
 
--- the file of the word at a place: its bytes, where it is held and has no more than are left of the limit
+-- the file of the argument at an index: its bytes, where it is held and has no more than are left of the limit
 abbrev pub within : ℕ → ℕ → Option (List ℕ) → Result (List ℕ) ReadError
-within place left None = Err (Unread place)
-within place left (Some bytes) = if nat_lt left (length bytes) then Err (TooLong place) else Ok bytes
+within index left None = Err (Unread index)
+within index left (Some bytes) = if nat_lt left (length bytes) then Err (TooLong index) else Ok bytes
 
--- the file behind the option: no bytes where there is none
+-- the file after the option: no bytes where there is none
 abbrev pub sframe_of : Held → Option (List ℕ) → Result (List ℕ) ReadError
 sframe_of held None = Ok []
 sframe_of held (Some name) = within 4 file_limit (file_of held name)
@@ -39,16 +39,16 @@ abbrev pub before : List ℕ → Result (List (List ℕ)) ReadError → Result (
 before bytes (Ok others) = Ok (bytes ∷ others)
 before bytes (Err error) = Err error
 
--- an object and those behind it
+-- an object and those after it
 abbrev pub first_of : Result (List ℕ) ReadError → (List ℕ → Result (List (List ℕ)) ReadError) → Result (List (List ℕ)) ReadError
 first_of (Err error) others = Err error
 first_of (Ok bytes) others = before bytes (others bytes)
 
--- the objects that the words from a place on name: each leaves less of the limit for those behind it
-abbrev pub objects_of : Held → ℕ → ℕ → List (List ℕ) → Result (List (List ℕ)) ReadError
-objects_of held place left [] = Ok []
-objects_of held place left (name ∷ names) =
-    first_of (within place left (file_of held name)) (λ bytes. objects_of held (place + 1) (left - length bytes) names)
+-- the objects that the arguments from an index on name: each leaves less of the limit for those after it
+abbrev pub object_texts : Held → ℕ → ℕ → List (List ℕ) → Result (List (List ℕ)) ReadError
+object_texts held index left [] = Ok []
+object_texts held index left (name ∷ names) =
+    first_of (within index left (file_of held name)) (λ bytes. object_texts held (index + 1) (left - length bytes) names)
 
 -- the files together, or the first error
 abbrev pub texts_of : Result (List ℕ) ReadError → Result (List ℕ) ReadError → Result (List (List ℕ)) ReadError → Result Texts ReadError
@@ -60,20 +60,55 @@ texts_of (Ok layout) (Ok sframe) (Ok objects) = Ok (record { layout = layout; sf
 -- the files of a command, or the first of them that is not held or is too long
 abbrev pub read_of : Held → Tables → Result Texts ReadError
 read_of held tables =
-    texts_of (within 2 file_limit (file_of held tables.layout)) (sframe_of held tables.sframe) (objects_of held (first_object tables.sframe) file_limit tables.objects)
+    texts_of (within 2 file_limit (file_of held tables.layout)) (sframe_of held tables.sframe) (object_texts held (first_object tables.sframe) file_limit tables.objects)
 
 -- the files that were read
 abbrev pub texts_read : FilesRead → Texts
 texts_read read = record { layout = read.layout.items; sframe = read.sframe.items; objects = map (span_bytes read.buffer.items) read.objects.items }
 
+-- a name, where there is one
+abbrev pub listed : Option (List ℕ) → List (List ℕ)
+listed None = []
+listed (Some name) = name ∷ []
+
+-- the names of a command's files, in the order of its arguments
+abbrev pub file_names : Tables → List (List ℕ)
+file_names tables = tables.layout ∷ (listed tables.sframe ++ tables.objects)
+
+-- how many files the arguments up to this index name, where the argument at the index names one
+abbrev pub files_through : Option (List ℕ) → ℕ → ℕ
+files_through None index = index - 1
+files_through (Some file) index = 1 + (index - 3)
+
+-- the names read for a result: all of them, those up to the file that was refused, or, where memory ran out, some of the first
+abbrev pub HasRead : {T : Type 0} → Tables → List (List ℕ) → List (List ℕ) → Result T ReadError → Type 0
+HasRead tables old new (Ok value) = new ≡ old ++ file_names tables
+HasRead tables old new (Err (Unread index)) = new ≡ old ++ take (files_through tables.sframe index) (file_names tables)
+HasRead tables old new (Err (TooLong index)) = new ≡ old ++ take (files_through tables.sframe index) (file_names tables)
+HasRead tables old new (Err NoMemory) = (n : ℕ) × (new ≡ old ++ take n (file_names tables))
+
+-- the same of objects, where the argument at index `first` names the first of them
+abbrev pub HasReadObjects : {T : Type 0} → ℕ → List (List ℕ) → List (List ℕ) → List (List ℕ) → Result T ReadError → Type 0
+HasReadObjects first names old new (Ok value) = new ≡ old ++ names
+HasReadObjects first names old new (Err (Unread index)) = new ≡ old ++ take (index + 1 - first) names
+HasReadObjects first names old new (Err (TooLong index)) = new ≡ old ++ take (index + 1 - first) names
+HasReadObjects first names old new (Err NoMemory) = (n : ℕ) × (new ≡ old ++ take n names)
+
+-- the count of faults after reading: it rises by one where a file was not read, and at no other result
+abbrev pub faults_after_reading : {T : Type 0} → Result T ReadError → ℕ → ℕ
+faults_after_reading (Ok value) before = before
+faults_after_reading (Err (Unread index)) before = counted 1 before
+faults_after_reading (Err (TooLong index)) before = before
+faults_after_reading (Err NoMemory) before = before
+
 -- an object was read onto the end of the buffer, and its span was added
-pub record IsObjectRead (held : Contents) (place : ℕ) (name : List ℕ) (old new : List ℕ) (spans more : List Span) (taken now : ℕ) : Type 0 where
+pub record IsObjectRead (held : Contents) (index : ℕ) (name : List ℕ) (old new : List ℕ) (spans more : List Span) (taken now : ℕ) : Type 0 where
   pub bytes : List ℕ
   pub appended : new ≡ old ++ bytes
   pub span : more ≡ spans ++ record { start = length old; stop = length old + length bytes } ∷ []
   pub fits : length bytes ≤ file_limit - length old
   pub took : RoseBy (length bytes) taken now
-  pub told : IfSome held (λ files. within place (file_limit - length old) (file_of files name) ≡ Ok bytes)
+  pub known : IfSome held (λ files. within index (file_limit - length old) (file_of files name) ≡ Ok bytes)
 
 -- objects stand in the buffer, each with its span
 pub record AreObjectsRead (held : Contents) (first : ℕ) (names : List (List ℕ)) (buffer : List ℕ) (spans : List Span) : Type 0 where
@@ -82,4 +117,4 @@ pub record AreObjectsRead (held : Contents) (first : ℕ) (names : List (List �
   pub buffer_is : buffer ≡ joined texts
   pub spans_are : spans ≡ spans_from 0 texts
   pub fit : length buffer ≤ file_limit
-  pub told : IfSome held (λ files. objects_of files first file_limit names ≡ Ok texts)
+  pub known : IfSome held (λ files. object_texts files first file_limit names ≡ Ok texts)

@@ -1,17 +1,21 @@
-//! Why the files of a command were not read.
+//! Why the files of a command were not read, each with the index of its argument, from 0.
 ghost use Rattle.std.specs.Prelude.{◌≡◌};
 ghost use Rattle.program_files.specs.declared.error.ReadError.TheVariants.{NoMemory};
 
 use std::alloc::{AllocError, AllocFailed};
+use thiserror::Error;
 
 /// Why the files of a command were not read.
-#[derive(Clone, Copy, Debug, PartialEq, Eq)]
+#[derive(Clone, Copy, Debug, PartialEq, Eq, Error)]
 pub enum ReadError {
-    /// The file of the word at this place was not read.
+    /// The file of the argument at this index was not read.
+    #[error("the file of argument {0} was not read")]
     Unread(usize),
-    /// The file of the word at this place is longer than the limit left for it.
+    /// The file of the argument at this index is longer than the limit left for it.
+    #[error("the file of argument {0} is longer than the limit left for it")]
     TooLong(usize),
-    /// There was no memory for the bytes of a file.
+    /// The allocation of memory for the bytes of a file failed.
+    #[error("out of memory")]
     NoMemory,
 }
 

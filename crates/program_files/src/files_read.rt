@@ -9,8 +9,8 @@ pub struct FilesRead {
     pub layout: Vec<u8>,
     /// The SFrame bytes, at most 2^30; none where the command names no such file.
     pub sframe: Vec<u8>,
-    /// The bytes of all objects, one behind another, at most 2^30.
+    /// The bytes of all objects, one after another, at most 2^30.
     pub buffer: Vec<u8>,
-    /// The span of each object in `buffer`, in the order of the words.
+    /// The span of each object in `buffer`, in the order of the arguments.
     pub objects: Vec<Span>,
 }

@@ -1,4 +1,4 @@
-//! The files that a command names, read in the order of its words and within the limits of the program.
+//! The files that a command names, read in the order of its arguments and within the limits of the program.
 //!
 //! All objects stand in one buffer, each with its span, and no file's bytes are copied from there. Each file has at most 2^30 bytes, and so
 //! have all objects together.
@@ -11,6 +11,3 @@ mod reading;
 pub use error::ReadError;
 pub use files_read::FilesRead;
 pub use reading::read_files;
-
-#[cfg(test)]
-mod tests;

@@ -3,7 +3,7 @@ use Rattle.std.specs.Prelude.{◌≡◌, ◌<◌, ◌≤◌, ◌+◌, ◌++◌, 
 use Rattle.std.specs.Cmp.Lexicographic.{pointwise}
 use Rattle.program_io.specs.Counting.{RoseBy}
 
--- names with the bytes of their files, in order, where they are told
+-- names with the bytes of their files, in order, where they are known
 abbrev pub Contents : Type 0
 Contents = Option (List (List ℕ × List ℕ))
 
@@ -17,10 +17,10 @@ pub record IsRead (held : Contents) (name : List ℕ) (limit : ℕ) (old new : L
   pub bytes : List ℕ
   pub appended : new ≡ old ++ bytes
   pub within : length bytes ≤ limit
-  pub told : IfSome held (λ files. file_of files name ≡ Some bytes)
+  pub known : IfSome held (λ files. file_of files name ≡ Some bytes)
   pub took : RoseBy (length bytes) before now
 
 -- a file is longer than the limit
 pub record IsTooLong (held : Contents) (name : List ℕ) (limit before now : ℕ) : Type 0 where
   pub took : RoseBy (limit + 1) before now
-  pub told : IfSome held (λ files. IsSomeAnd (file_of files name) (λ bytes. limit < length bytes))
+  pub known : IfSome held (λ files. IsSomeAnd (file_of files name) (λ bytes. limit < length bytes))

@@ -6,18 +6,20 @@ use Rattle.program_io.specs.Contents.{file_of}
 use Rattle.program_io.specs.declared.files.FileFault.{FileFault}
 use Rattle.program_io.specs.declared.files.FileFault.TheVariants.{Failed, TooLong}
 
--- the files, the numbers of the calls that fail, and the counts of calls, of faults and of bytes taken
+-- the files, the numbers of the calls that fail, the names that were read, and the counts of calls, of faults and of bytes taken
 pub record FilesInMemory : Type 0 where
   pub files : List (List ℕ × List ℕ)
   pub failing : List ℕ
+  pub reads : List (List ℕ)
   pub calls : ℕ
   pub faults : ℕ
   pub taken : ℕ
 
--- what was written, the numbers of the calls that fail, and the counts of calls and of faults
+-- what was written, the numbers of the calls that fail, the texts that were put, and the counts of calls and of faults
 pub record SinkInMemory : Type 0 where
   pub written : List ℕ
   pub failing : List ℕ
+  pub puts : List (List ℕ)
   pub calls : ℕ
   pub faults : ℕ
 
@@ -35,6 +37,6 @@ fault_of_read true file limit = Some Failed
 fault_of_read false None limit = Some Failed
 fault_of_read false (Some bytes) limit = if nat_lt limit (length bytes) then Some TooLong else None
 
--- the fault of the next read, of this name, want of memory aside
+-- the fault of the next read, of this name, where memory does not run out
 abbrev pub next_fault : FilesInMemory → List ℕ → ℕ → Option FileFault
 next_fault memory name limit = fault_of_read (is_listed memory.failing memory.calls) (file_of memory.files name) limit

@@ -1,8 +1,13 @@
-//! The system's files. What they hold is not told, and they are never steady.
-ghost use Rattle.std.specs.Prelude.{◌≡◌, ◌≤◌, ◌+◌, ◌-◌, take, vec_len, OnOk, IsErrOf, None, false};
+//! The system's files. Their contents are not known to a contract, and they are never steady.
+//!
+//! Reading is generic over the reader, and exact where the reader's bytes are known. Only the opened file itself is not.
+ghost use Rattle.std.specs.Prelude.{◌≡◌, ◌≤◌, ◌+◌, ◌-◌, [], take, drop, vec_len, OnOk, OnErr, IsErrOf, None, false};
+ghost use Rattle.std.specs.Io.KnownBytes.{Consumes, IsAtEnd};
 ghost use Rattle.program_io.specs.Counting.{RoseBy};
+ghost use Rattle.program_io.specs.Reading.{IsReadToEnd, IsLeftTooLong};
 ghost use Rattle.std.proofs.Common.{rules};
 
+use crate::trail::Trail;
 use crate::{FileFault, Files};
 use std::fs;
 use std::io::Read;
@@ -11,8 +16,8 @@ use std::marker::Model;
 /// How many bytes are read at a time.
 const PIECE: usize = 16 * 1024;
 
-/// Reads what a reader has left onto the end of `out`, and counts the bytes that it takes.
-fn read_rest<R: Read>(
+/// Reads what a reader has left onto the end of `out`, and counts the bytes that it takes. After an error `out` has some of them.
+fn append_rest<R: Read>(
     reader: &mut R,
     out: &mut Vec<u8>,
     limit: usize,
@@ -22,7 +27,9 @@ fn read_rest<R: Read>(
     ensures longer { vec_len out.old ≤ vec_len out.new }
     ensures ok { OnOk result (vec_len out.new ≤ vec_len out.old + limit) }
     ensures took { RoseBy (vec_len out.new - vec_len out.old) taken.old taken.new }
-    ensures too_long { IsErrOf result FileFault.TooLong → RoseBy (limit + 1) taken.old taken.new }
+    ensures consumed { OnOk result (Consumes (R.remaining reader.old) (R.remaining reader.new) (drop (vec_len out.old) out.new.items)) }
+    ensures end { OnOk result (IsAtEnd (R.remaining reader.new)) }
+    ensures too_long { IsErrOf result FileFault.TooLong → IsLeftTooLong (R.remaining reader.old) limit taken.old taken.new }
     ensures later { taken.old ≤ taken.new }
 {
     let mut piece = [0u8; PIECE];
@@ -44,24 +51,28 @@ fn read_rest<R: Read>(
     }
 }
 
-/// Opens a file, and reads it.
-fn read_named<R: std::rt::Files>(
-    rt: &R,
-    name: &str,
+/// Reads a reader to its end onto the end of `out`, where it has at most `limit` bytes left, and counts in `taken` the bytes that it takes.
+///
+/// `Failed`: a read failed. `TooLong`: the reader had more than `limit` bytes left. After each error, `NoMemory` too, `out` is unchanged.
+/// The count stands still at 2^64 - 1.
+pub fn read_to_limit<R: Read>(
+    reader: &mut R,
     out: &mut Vec<u8>,
     limit: usize,
     taken: &mut u64,
 ) -> Result<(), FileFault>
-    ensures kept { take (vec_len out.old) out.new.items ≡ out.old.items }
-    ensures longer { vec_len out.old ≤ vec_len out.new }
-    ensures ok { OnOk result (vec_len out.new ≤ vec_len out.old + limit) }
-    ensures took { RoseBy (vec_len out.new - vec_len out.old) taken.old taken.new }
-    ensures too_long { IsErrOf result FileFault.TooLong → RoseBy (limit + 1) taken.old taken.new }
+    ensures ok { OnOk result (IsReadToEnd (R.remaining reader.old) (R.remaining reader.new) limit out.old.items out.new.items taken.old taken.new) }
+    ensures err { OnErr result (out.new.items ≡ out.old.items) }
+    ensures too_long { IsErrOf result FileFault.TooLong → IsLeftTooLong (R.remaining reader.old) limit taken.old taken.new }
     ensures later { taken.old ≤ taken.new }
 {
-    match fs::open(rt, name) {
-        Ok(mut file) => read_rest(&mut file, out, limit, taken),
-        Err(_) => Err(FileFault::Failed),
+    let start = out.len();
+    match append_rest(reader, out, limit, taken) {
+        Ok(()) => Ok(()),
+        Err(fault) => {
+            out.truncate(start);
+            Err(fault)
+        }
     }
 }
 
@@ -69,25 +80,27 @@ fn read_named<R: std::rt::Files>(
 #[derive(Drop)]
 pub struct DiskFiles<'r, R: std::rt::Files> {
     rt: &'r R,
+    reads: Trail,
     faults: u64,
     taken: u64,
 }
 
 impl<'r, R: std::rt::Files> Model for DiskFiles<'r, R> {
-    ghost use Rattle.program_io.specs.Counting.{CountsOfFiles};
+    ghost use Rattle.program_io.specs.Counting.{FilesUnknown};
 
-    ghost Value = { CountsOfFiles };
+    ghost Value = { FilesUnknown };
 
-    ghost view = { λ d. record { faults = d.faults; taken = d.taken } };
+    ghost view = { λ d. record { reads = d.reads.items; faults = d.faults; taken = d.taken } };
 }
 
 impl<'r, R: std::rt::Files> DiskFiles<'r, R> {
-    /// The files of this runtime. Every count begins at 0.
+    /// Makes the files of this runtime. Every count begins at 0.
     pub fn new(rt: &'r R) -> DiskFiles<'r, R>
-        ensures { result ≡ record { faults = 0; taken = 0 } }
+        ensures { result ≡ record { reads = []; faults = 0; taken = 0 } }
     {
         DiskFiles {
             rt,
+            reads: Trail::new(),
             faults: 0,
             taken: 0,
         }
@@ -96,6 +109,8 @@ impl<'r, R: std::rt::Files> DiskFiles<'r, R> {
 
 impl<'r, R: std::rt::Files> Files for DiskFiles<'r, R> {
     ghost held = { λ _. None };
+
+    ghost reads = { λ d. d.reads };
 
     ghost faults = { λ d. d.faults };
 
@@ -106,16 +121,15 @@ impl<'r, R: std::rt::Files> Files for DiskFiles<'r, R> {
     ghost tells = { Prim.search rules };
 
     fn read_onto(&mut self, name: &str, out: &mut Vec<u8>, limit: usize) -> Result<(), FileFault> {
-        let start = out.len();
-        match read_named(self.rt, name, out, limit, &mut self.taken) {
-            Ok(()) => Ok(()),
-            Err(fault) => {
-                out.truncate(start);
-                if fault == FileFault::Failed {
-                    self.faults = self.faults.saturating_add(1);
-                }
-                Err(fault)
-            }
+        self.reads.add(name.as_bytes());
+        let Ok(mut file) = fs::open(self.rt, name) else {
+            self.faults = self.faults.saturating_add(1);
+            return Err(FileFault::Failed);
+        };
+        let outcome = read_to_limit(&mut file, out, limit, &mut self.taken);
+        if outcome == Err(FileFault::Failed) {
+            self.faults = self.faults.saturating_add(1);
         }
+        outcome
     }
 }

@@ -1,19 +1,21 @@
 //! Files in memory, which fail for a missing name and at the calls that are listed.
-ghost use Rattle.std.specs.Prelude.{◌≡◌, ◌==◌, ◌↔◌, ◌≤◌, length, Some, [], IsTrue, IsSome, IsNone, IfSome, OnOk, OnErr, IsErrOf, MatchOption, option_map};
+ghost use Rattle.std.specs.Prelude.{◌≡◌, ◌==◌, ◌↔◌, ◌≤◌, ◌++◌, ◌∷◌, length, Some, [], IsTrue, IsSome, IsNone, IfSome, OnOk, OnErr, IsErrOf, MatchOption, option_map};
 ghost use Rattle.program_io.specs.Contents.{file_of, IsRead, IsTooLong};
-ghost use Rattle.program_io.specs.Counting.{counted, Rose};
+ghost use Rattle.program_io.specs.Counting.{counted, Rose, faults_after_read};
 ghost use Rattle.program_io.specs.InMemory.{files_of, next_fault};
 ghost use Rattle.std.proofs.Common.{rules};
 
+use crate::trail::Trail;
 use crate::{FileFault, Files};
 use std::marker::Model;
 
-/// Files in memory: a name has the bytes of the first pair that begins with it. A call of [`Files::read_onto`] whose number, from 0, is
-/// listed fails. A number stands at 2^64 - 1 once it is reached.
+/// Files in memory: a name has the bytes of the first pair with it. A call of [`Files::read_onto`] whose number, from 0, is listed
+/// fails. The number of a call stands still at 2^64 - 1.
 #[derive(Drop)]
 pub struct MemoryFiles {
     held: Vec<(String, Vec<u8>)>,
     failing: Vec<u64>,
+    reads: Trail,
     calls: u64,
     faults: u64,
     taken: u64,
@@ -24,19 +26,20 @@ impl Model for MemoryFiles {
 
     ghost Value = { FilesInMemory };
 
-    ghost view = { λ m. record { files = files_of m.held.items; failing = m.failing.items; calls = m.calls; faults = m.faults; taken = m.taken } };
+    ghost view = { λ m. record { files = files_of m.held.items; failing = m.failing.items; reads = m.reads.items; calls = m.calls; faults = m.faults; taken = m.taken } };
 }
 
 impl MemoryFiles {
-    /// These names and bytes, where the calls with these numbers fail. Every count begins at 0.
+    /// Makes files of these names and bytes, where the calls with these numbers fail. Every count begins at 0.
     pub fn new(held: Vec<(String, Vec<u8>)>, failing: Vec<u64>) -> MemoryFiles
-        ensures value { result ≡ record { files = files_of held.items; failing = failing.items; calls = 0; faults = 0; taken = 0 } }
-        ensures told { ⟦<MemoryFiles as Files>⟧.held result ≡ Some (files_of held.items) }
+        ensures value { result ≡ record { files = files_of held.items; failing = failing.items; reads = []; calls = 0; faults = 0; taken = 0 } }
+        ensures known { ⟦<MemoryFiles as Files>⟧.held result ≡ Some (files_of held.items) }
         ensures steady { IsTrue (⟦<MemoryFiles as Files>⟧.steady result) ↔ (failing.items ≡ []) }
     {
         MemoryFiles {
             held,
             failing,
+            reads: Trail::new(),
             calls: 0,
             faults: 0,
             taken: 0,
@@ -44,7 +47,7 @@ impl MemoryFiles {
     }
 }
 
-/// The bytes of the first file of a name.
+/// Returns the bytes of the first file of a name.
 fn find<'a>(files: &'a [(String, Vec<u8>)], name: &str) -> Option<&'a [u8]>
     ensures { option_map (λ bytes. bytes.now) result ≡ file_of (files_of files.now) name.now }
 {
@@ -61,6 +64,8 @@ fn find<'a>(files: &'a [(String, Vec<u8>)], name: &str) -> Option<&'a [u8]>
 impl Files for MemoryFiles {
     ghost held = { λ m. Some m.files };
 
+    ghost reads = { λ m. m.reads };
+
     ghost faults = { λ m. m.faults };
 
     ghost taken = { λ m. m.taken };
@@ -76,7 +81,9 @@ impl Files for MemoryFiles {
         ensures failing { self.new.failing ≡ self.old.failing }
         ensures steady { (length self.new.failing == 0) ≡ (length self.old.failing == 0) }
         ensures calls { self.new.calls ≡ counted 1 self.old.calls }
+        ensures reads { self.new.reads ≡ self.old.reads ++ name.now ∷ [] }
         ensures faults { self.old.faults ≤ self.new.faults }
+        ensures counted { self.new.faults ≡ faults_after_read result self.old.faults }
         ensures taken { self.old.taken ≤ self.new.taken }
 
         ensures ok { OnOk result (IsRead (Some self.old.files) name.now limit out.old.items out.new.items self.old.taken self.new.taken) }
@@ -88,6 +95,7 @@ impl Files for MemoryFiles {
 
         ensures exactly { MatchOption (next_fault self.old name.now limit) (OnErr result (result ≡ Err FileFault.NoMemory)) (λ fault. result ≡ Err fault) }
     {
+        self.reads.add(name.as_bytes());
         let number = self.calls;
         self.calls = self.calls.saturating_add(1);
         if self.failing.contains(&number) {

@@ -1,18 +1,20 @@
 //! A sink in memory, which fails at the calls that are listed.
-ghost use Rattle.std.specs.Prelude.{◌≡◌, ◌==◌, ◌↔◌, ◌≤◌, ◌/◌, ◌++◌, ℕ, length, take, Some, [], IsTrue, OnOk, OnErr, IsErrOf, false};
-ghost use Rattle.program_io.specs.Counting.{counted, Rose};
+ghost use Rattle.std.specs.Prelude.{◌≡◌, ◌==◌, ◌↔◌, ◌≤◌, ◌/◌, ◌++◌, ◌∷◌, ℕ, length, take, Some, [], IsTrue, OnOk, OnErr, IsErrOf, false};
+ghost use Rattle.program_io.specs.Counting.{counted, Rose, faults_after_put};
 ghost use Rattle.program_io.specs.InMemory.{is_listed};
 
+use crate::trail::Trail;
 use crate::{Sink, SinkFault};
 use std::alloc::Global;
 use std::marker::Model;
 
 /// A sink in memory. A call of [`Sink::put`] whose number, from 0, is listed fails, and appends the first half of its bytes, rounded
-/// down. A number stands at 2^64 - 1 once it is reached.
+/// down. The number of a call stands still at 2^64 - 1.
 #[derive(Drop)]
 pub struct MemorySink {
     bytes: Vec<u8>,
     failing: Vec<u64>,
+    puts: Trail,
     calls: u64,
     faults: u64,
 }
@@ -22,25 +24,26 @@ impl Model for MemorySink {
 
     ghost Value = { SinkInMemory };
 
-    ghost view = { λ m. record { written = m.bytes.items; failing = m.failing.items; calls = m.calls; faults = m.faults } };
+    ghost view = { λ m. record { written = m.bytes.items; failing = m.failing.items; puts = m.puts.items; calls = m.calls; faults = m.faults } };
 }
 
 impl MemorySink {
-    /// An empty sink, where the calls with these numbers fail. Every count begins at 0.
+    /// Makes an empty sink, where the calls with these numbers fail. Every count begins at 0.
     pub fn new(alloc: Global, failing: Vec<u64>) -> MemorySink
-        ensures value { result ≡ record { written = []; failing = failing.items; calls = 0; faults = 0 } }
-        ensures told { ⟦<MemorySink as Sink>⟧.written result ≡ Some [] }
+        ensures value { result ≡ record { written = []; failing = failing.items; puts = []; calls = 0; faults = 0 } }
+        ensures known { ⟦<MemorySink as Sink>⟧.written result ≡ Some [] }
         ensures steady { IsTrue (⟦<MemorySink as Sink>⟧.steady result) ↔ (failing.items ≡ []) }
     {
         MemorySink {
             bytes: Vec::new(alloc),
             failing,
+            puts: Trail::new(),
             calls: 0,
             faults: 0,
         }
     }
 
-    /// All bytes that were written, first to last.
+    /// Returns all bytes that were written, first to last.
     pub fn written(&self) -> &[u8]
         ensures { result.now ≡ self.now.written }
     {
@@ -51,16 +54,20 @@ impl MemorySink {
 impl Sink for MemorySink {
     ghost written = { λ m. Some m.written };
 
+    ghost puts = { λ m. m.puts };
+
     ghost faults = { λ m. m.faults };
 
     ghost steady = { λ m. length m.failing == 0 };
 
-    /// Fails exactly at a listed call, want of memory aside, and has then appended the first half of the bytes.
+    /// Fails exactly at a listed call, out of memory aside, and has then appended the first half of the bytes.
     fn put(&mut self, bytes: &[u8]) -> Result<(), SinkFault>
         ensures failing { self.new.failing ≡ self.old.failing }
         ensures steady { (length self.new.failing == 0) ≡ (length self.old.failing == 0) }
         ensures calls { self.new.calls ≡ counted 1 self.old.calls }
+        ensures puts { self.new.puts ≡ self.old.puts ++ bytes.now ∷ [] }
         ensures faults { self.old.faults ≤ self.new.faults }
+        ensures counted { self.new.faults ≡ faults_after_put result self.old.faults }
 
         ensures ok { OnOk result (self.new.written ≡ self.old.written ++ bytes.now) }
         ensures half { IsErrOf result SinkFault.Failed → self.new.written ≡ self.old.written ++ take (length bytes.now / 2) bytes.now }
@@ -72,6 +79,7 @@ impl Sink for MemorySink {
         ensures only_listed { IsErrOf result SinkFault.Failed → IsTrue (is_listed self.old.failing self.old.calls) }
         ensures listed { OnOk result (is_listed self.old.failing self.old.calls ≡ false) }
     {
+        self.puts.add(bytes);
         let number = self.calls;
         self.calls = self.calls.saturating_add(1);
         if self.failing.contains(&number) {

@@ -1,4 +1,4 @@
--- What lines say, with one more line behind them.
+-- What lines say, with one more line after them.
 use Rattle.std.proofs.Common.{◌≡◌, ◌+◌, ◌++◌, ◌||◌, ℕ, List, ◌∷◌, false, refl, sym, ap, ◌∙◌, append_assoc, is_some, if◌then◌else◌}
 use Rattle.std.specs.Prelude.{Option, Some, None}
 use Rattle.std.specs.List.{flat_map}

@@ -24,7 +24,7 @@ only_one mark none alone (byte ∷ (next ∷ text)) some unmarked =
     pieces_at mark none byte (next ∷ text) false (unmarked 0 (omega arith))
     ∙ ap (lengthen byte) (only_one mark none alone (next ∷ text) (omega arith) (λ k lt. unmarked (suc k) (omega arith)))
 
--- what stands before the first such byte, and the pieces of what stands behind it
+-- what stands before the first such byte, and the pieces of what follows it
 pub first_piece : (mark : ℕ) (none : List (List ℕ)) (text : List ℕ) (end : ℕ) → NoneBefore (Passes (is_byte mark) text) 0 (length text) end → Passes (is_byte mark) text end → pieces_of mark none text ≡ take end text ∷ pieces_of mark none (take (length text - (end + 1)) (drop (end + 1) text))
 first_piece mark none text end first at =
     let rest : List ℕ = drop (end + 1) text in

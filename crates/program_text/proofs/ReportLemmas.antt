@@ -7,7 +7,7 @@ use Rattle.hex.specs.Hex.{encode_lower, encode_with, lower_digits}
 use Rattle.program_text.specs.Lines.{text_of}
 use Rattle.program_text.specs.Report.{row, byte_lines}
 
--- the bytes behind the first row are fewer
+-- the bytes after the first row are fewer
 pub fewer : (after rest : List ℕ) → 0 < length rest → after ≡ drop 32 rest → length after < length rest
 fewer after rest some is = omega (arith, ap (λ (l : List ℕ). length l) is, length-drop 32 rest)
 

@@ -1,4 +1,4 @@
--- A line whose words go on behind its last number is wrong.
+-- A line whose words go on after its last number is wrong.
 use Rattle.std.proofs.Common.{◌≡◌, ◌==◌, ℕ, List, [], ◌∷◌, Bool, true, false, map, refl, ap, Bor, option_map, is_some, if◌then◌else◌}
 use Rattle.std.specs.Prelude.{Option, Some, None}
 use Rattle.program_text.specs.Lines.{lengthen, words_in}

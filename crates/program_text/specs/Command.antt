@@ -1,5 +1,5 @@
--- What the words of a command line ask for:
--- `tables MACHINE LAYOUT [--sframe FILE] [OBJECT ...]`, with at most 65,536 objects. Places of words count from 0.
+-- What the arguments of the command line ask for:
+-- `tables MACHINE LAYOUT [--sframe FILE] [OBJECT ...]`, with at most 65,536 objects. Indexes of arguments count from 0.
 use Rattle.std.specs.Prelude.{◌≡◌, ℕ, ◌+◌, ◌<◌, ◌≤◌, ◌⊎◌, Bool, List, [], ◌∷◌, length, codes, if◌then◌else◌, nat_eq, nat_le, String, string_bytes, map, Option, Some, None, Result, Ok, Err, IsSome, option_map}
 use Rattle.std.specs.Cmp.Lexicographic.{pointwise}
 use Rattle.std.specs.declared.alloc.Global.{Global}
@@ -7,9 +7,9 @@ use Rattle.elf_format.specs.declared.architecture.Architecture.{Architecture}
 use Rattle.elf_format.specs.declared.architecture.Architecture.TheVariants.{X86_64, AArch64, RiscV64, LoongArch64, Ppc64}
 use Rattle.program_text.specs.declared.command.Command.{Command}
 
--- the bytes of each word
-abbrev pub words_of : List (String Global) → List (List ℕ)
-words_of words = map string_bytes words
+-- the bytes of each argument
+abbrev pub arguments_of : List (String Global) → List (List ℕ)
+arguments_of arguments = map string_bytes arguments
 
 -- the command `tables`: the machine, and the names of its files
 pub record Tables : Type 0 where
@@ -18,7 +18,7 @@ pub record Tables : Type 0 where
   pub sframe : Option (List ℕ)
   pub objects : List (List ℕ)
 
--- the word that names a machine
+-- the argument that names a machine
 abbrev pub machine_name : Architecture → List ℕ
 machine_name X86_64 = codes "x86_64"
 machine_name AArch64 = codes "aarch64"
@@ -26,11 +26,11 @@ machine_name RiscV64 = codes "riscv64"
 machine_name LoongArch64 = codes "loongarch64"
 machine_name Ppc64 = codes "ppc64"
 
--- whether two words are the same
+-- whether two arguments are the same
 abbrev pub is_word : List ℕ → List ℕ → Bool
 is_word a b = pointwise nat_eq a b
 
--- the machine that a word names
+-- the machine that an argument names
 abbrev pub machine_of : List ℕ → Option Architecture
 machine_of word =
     if is_word word (machine_name X86_64) then Some X86_64
@@ -44,51 +44,51 @@ machine_of word =
 abbrev pub object_limit : ℕ
 object_limit = 65536
 
--- the place of the first word that names an object
+-- the index of the first argument that names an object
 abbrev pub first_object : Option (List ℕ) → ℕ
 first_object None = 3
 first_object (Some file) = 5
 
--- a command with these objects, or the place of the first object too many
+-- a command with these objects, or the index of the first object too many
 abbrev pub with_objects : Architecture → List ℕ → Option (List ℕ) → List (List ℕ) → Result Tables ℕ
 with_objects machine layout sframe objects =
     if nat_le (length objects) object_limit
     then Ok (record { machine = machine; layout = layout; sframe = sframe; objects = objects })
     else Err (first_object sframe + object_limit)
 
--- the words after `--sframe`
+-- the arguments after `--sframe`
 abbrev pub after_option : Architecture → List ℕ → List (List ℕ) → Result Tables ℕ
 after_option machine layout [] = Err 4
 after_option machine layout (file ∷ objects) = with_objects machine layout (Some file) objects
 
--- the words after the layout: the fourth word alone may be the option
+-- the arguments after the layout: the fourth argument alone may be the option
 abbrev pub after_layout : Architecture → List ℕ → List (List ℕ) → Result Tables ℕ
 after_layout machine layout [] = with_objects machine layout None []
-after_layout machine layout (word ∷ words) =
-    if is_word word (codes "--sframe") then after_option machine layout words else with_objects machine layout None (word ∷ words)
+after_layout machine layout (word ∷ arguments) =
+    if is_word word (codes "--sframe") then after_option machine layout arguments else with_objects machine layout None (word ∷ arguments)
 
--- the words after the machine
+-- the arguments after the machine
 abbrev pub after_machine : Option Architecture → List (List ℕ) → Result Tables ℕ
-after_machine None words = Err 1
+after_machine None arguments = Err 1
 after_machine (Some machine) [] = Err 2
-after_machine (Some machine) (layout ∷ words) = after_layout machine layout words
+after_machine (Some machine) (layout ∷ arguments) = after_layout machine layout arguments
 
--- the words after `tables`
+-- the arguments after `tables`
 abbrev pub after_tables : List (List ℕ) → Result Tables ℕ
 after_tables [] = Err 1
-after_tables (machine ∷ words) = after_machine (machine_of machine) words
+after_tables (machine ∷ arguments) = after_machine (machine_of machine) arguments
 
--- what the words ask for, or the place of the first wrong or missing word
+-- what the arguments ask for, or the index of the first wrong or missing argument
 abbrev pub command_of : List (List ℕ) → Result Tables ℕ
 command_of [] = Err 0
-command_of (command ∷ words) = if is_word command (codes "tables") then after_tables words else Err 0
+command_of (command ∷ arguments) = if is_word command (codes "tables") then after_tables arguments else Err 0
 
--- whether the word at a place names a file of a command
+-- the argument at this index names a file of a command
 abbrev pub NamesFile : Tables → ℕ → Type 0
-NamesFile tables place =
-    (place ≡ 2) ⊎ (((place ≡ 4) × IsSome tables.sframe) ⊎ ((first_object tables.sframe ≤ place) × (place < first_object tables.sframe + length tables.objects)))
+NamesFile tables index =
+    (index ≡ 2) ⊎ (((index ≡ 4) × IsSome tables.sframe) ⊎ ((first_object tables.sframe ≤ index) × (index < first_object tables.sframe + length tables.objects)))
 
 -- a command as it was read
 abbrev pub tables_of : Command → Tables
 tables_of command =
-    record { machine = command.machine; layout = command.layout.now; sframe = option_map (λ file. file.now) command.sframe; objects = words_of command.objects.now }
+    record { machine = command.machine; layout = command.layout.now; sframe = option_map (λ file. file.now) command.sframe; objects = arguments_of command.objects.now }

@@ -20,7 +20,7 @@ lines_of text = pieces_of 10 [] text
 abbrev pub words_in : List ℕ → List (List ℕ)
 words_in line = pieces_of 32 ([] ∷ []) line
 
--- the words behind a word, where a space follows it, and none else
+-- the words after a word, where a space follows it, and none else
 abbrev pub words_after : Option (List ℕ) → List (List ℕ)
 words_after None = []
 words_after (Some line) = words_in line

@@ -3,7 +3,7 @@ use Rattle.std.specs.Prelude.{ℕ, ◌+◌, ◌-◌, ◌*◌, ◌^◌, ◌==◌,
 use Rattle.std.specs.Char.{is_ascii_digit}
 use Rattle.std.specs.Str.{all_ascii_digits}
 
--- the number that digits write: each counts by its place
+-- the number that digits write: each counts by the digits after it
 abbrev pub value_of : List ℕ → ℕ
 value_of [] = 0
 value_of (digit ∷ digits) = (digit - 48) * 10 ^ length digits + value_of digits

@@ -27,11 +27,11 @@ abbrev pub name_digits : List ℕ → List ℕ
 name_digits [] = codes "-"
 name_digits (byte ∷ bytes) = encode_lower (byte ∷ bytes)
 
--- a word of 32 bits in eight digits
+-- an element of a CU vector, 32 bits, in eight digits
 abbrev pub word_digits : ℕ → List ℕ
 word_digits word = encode_lower (to_be_bytes w32 word)
 
--- the line of a name with its words
+-- the line of a name with its CU vector
 abbrev pub name_line : NameWords → List ℕ
 name_line named = codes "name " ++ name_digits named.name.now ++ flat_map (λ word. codes " " ++ word_digits word) named.words.items
 

@@ -1,32 +1,32 @@
-//! The words of the command line: `tables MACHINE LAYOUT [--sframe FILE] [OBJECT ...]`.
+//! The arguments of the command line: `tables MACHINE LAYOUT [--sframe FILE] [OBJECT ...]`.
 //!
-//! Places of words count from 0, without the program's name. A command names at most 65,536 objects.
+//! Indexes of arguments count from 0, without the program's name. A command names at most 65,536 objects.
 ghost use Rattle.std.specs.Prelude.{◌≡◌, ◌≤◌, length, IfOk, MatchResult, option_map};
-ghost use Rattle.program_text.specs.Command.{words_of, tables_of, command_of, machine_of, with_objects, after_layout, first_object, object_limit};
+ghost use Rattle.program_text.specs.Command.{arguments_of, tables_of, command_of, machine_of, with_objects, after_layout, first_object, object_limit};
 
 use elf_format::Architecture;
 
 /// How many objects a command may name.
 const OBJECT_LIMIT: usize = 65536;
 
-/// The option that a file of SFrame bytes follows.
+/// The option before the file of SFrame bytes.
 const SFRAME_OPTION: &str = "--sframe";
 
-/// The command `tables`, with the names of its files as they stand in the words.
+/// The command `tables`, with the names of its files as they stand in the arguments.
 #[derive(Clone, Copy, Debug)]
 pub struct Command<'w> {
     /// The machine whose objects are read.
     pub machine: Architecture,
-    /// The file of the layout, the word at place 2.
+    /// The file of the layout, the argument at index 2.
     pub layout: &'w str,
-    /// The file of the SFrame bytes, the word at place 4, behind the option.
+    /// The file of the SFrame bytes, the argument at index 4, after the option.
     pub sframe: Option<&'w str>,
     /// The files of the objects, at most 65,536.
     pub objects: &'w [String],
 }
 
 impl Command<'_> {
-    /// The place of the first word that names an object.
+    /// Returns the index of the first argument that names an object.
     pub fn first_object(&self) -> usize
         ensures { result ≡ first_object (tables_of self.now).sframe }
     {
@@ -34,7 +34,7 @@ impl Command<'_> {
     }
 }
 
-/// The machine that a word names.
+/// Returns the machine that an argument names.
 fn read_machine(word: &str) -> Option<Architecture>
     ensures { result ≡ machine_of word.now }
 {
@@ -48,7 +48,7 @@ fn read_machine(word: &str) -> Option<Architecture>
     }
 }
 
-/// The command with these objects, the words from place `first` on.
+/// Makes the command with these objects, the last of its arguments.
 fn read_objects<'w>(
     machine: Architecture,
     layout: &'w str,
@@ -57,9 +57,9 @@ fn read_objects<'w>(
 ) -> Result<Command<'w>, usize>
     ensures few { IfOk result (λ c. length c.objects.now ≤ object_limit) }
     ensures exactly { MatchResult result
-        (λ c. with_objects machine layout.entry.now (option_map (λ file. file.now) sframe.entry) (words_of objects.entry.now)
+        (λ c. with_objects machine layout.entry.now (option_map (λ file. file.now) sframe.entry) (arguments_of objects.entry.now)
         ≡ Ok (tables_of c))
-        (λ place. with_objects machine layout.entry.now (option_map (λ file. file.now) sframe.entry) (words_of objects.entry.now) ≡ Err place) }
+        (λ index. with_objects machine layout.entry.now (option_map (λ file. file.now) sframe.entry) (arguments_of objects.entry.now) ≡ Err index) }
 {
     let command = Command {
         machine,
@@ -73,7 +73,7 @@ fn read_objects<'w>(
     Ok(command)
 }
 
-/// Reads the words after the layout. The option is one only as the first of them.
+/// Reads the arguments after the layout. The option is one only as the first of them.
 fn read_files<'w>(
     machine: Architecture,
     layout: &'w str,
@@ -81,9 +81,9 @@ fn read_files<'w>(
 ) -> Result<Command<'w>, usize>
     ensures few { IfOk result (λ c. length c.objects.now ≤ object_limit) }
     ensures exactly { MatchResult result
-        (λ c. after_layout machine layout.entry.now (words_of words.entry.now)
+        (λ c. after_layout machine layout.entry.now (arguments_of words.entry.now)
         ≡ Ok (tables_of c))
-        (λ place. after_layout machine layout.entry.now (words_of words.entry.now) ≡ Err place) }
+        (λ index. after_layout machine layout.entry.now (arguments_of words.entry.now) ≡ Err index) }
 {
     let [option, rest @ ..] = words else {
         return read_objects(machine, layout, None, words);
@@ -97,12 +97,14 @@ fn read_files<'w>(
     read_objects(machine, layout, Some(file.as_str()), objects)
 }
 
-/// Reads the words of the command line, without the program's name. The error is the place of the first wrong or missing word.
+/// Reads the arguments of the command line, without the program's name.
+///
+/// The error is the index, from 0, of the first wrong or missing argument.
 pub fn read_command(words: &[String]) -> Result<Command<'_>, usize>
     ensures exactly { MatchResult result
-        (λ c. command_of (words_of words.now)
+        (λ c. command_of (arguments_of words.now)
         ≡ Ok (tables_of c))
-        (λ place. command_of (words_of words.now) ≡ Err place) }
+        (λ index. command_of (arguments_of words.now) ≡ Err index) }
     ensures few { IfOk result (λ c. length c.objects.now ≤ object_limit) }
 {
     let [command, rest @ ..] = words else {

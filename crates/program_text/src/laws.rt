@@ -1,15 +1,15 @@
-//! What follows from the definition of the layout: each number has one text, and the layout of small texts was worked out by hand.
+//! Laws of the definitions: each number has one text, and the layouts of small texts are those worked out by hand.
 
 ghost use Rattle.std.specs.Prelude.{◌≡◌, ◌↔◌, ◌<◌, ◌^◌, ◌∷◌, [], ℕ, List, Some, Ok, Err, codes, decimal};
 ghost use Rattle.program_text.specs.Number.{number_of};
 ghost use Rattle.program_text.specs.Layout.{layout_of};
 
-/// A word is read as a number exactly where it is what that number, below 2^64, is written as.
+/// States that a word is read as a number exactly where it is the decimal text of that number, below 2^64.
 pub fn numbers_have_one_text()
     ensures { (word : List ℕ) (n : ℕ) → (number_of word ≡ Some n) ↔ ((n < 2 ^ 64) × (word ≡ decimal n)) }
 {}
 
-/// A text with a line of each kind, and texts whose first wrong line is told.
+/// States the layout of a text with a line of each form, and the first wrong line of some texts.
 pub fn small_layouts()
     ensures nothing { layout_of [] ≡ Ok (record { placements = []; ranges = []; base = 0 }) }
     ensures each { layout_of (codes "# a\n\nplace 0 3 4096 16\nrange 0 74\nbase 18446744073709551615") ≡ Ok (record {

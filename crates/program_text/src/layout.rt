@@ -1,4 +1,4 @@
-//! The layout: a text of lines, numbered from 1, in which a linker says where sections have been put.
+//! The layout: a text of lines, numbered from 1, in which a linker states where sections have been placed.
 //!
 //! An empty line and a line that begins with `#` are skipped. The others are `place OBJECT SECTION ADDRESS SIZE`, `range START STOP` or
 //! `base ADDRESS`, the last at most once. The last line may lack its line feed.
@@ -12,24 +12,27 @@ use crate::pieces::split_line;
 use elf_format::Span;
 use gdb_index_format::Placement;
 use std::alloc::{AllocError, AllocFailed, Global};
+use thiserror::Error;
 
-/// What a layout says.
+/// The entries of a layout.
 #[derive(Debug, Drop)]
 pub struct Layout {
-    /// Where sections of objects were put, in the order of the lines.
+    /// The placements of sections of objects, in the order of the lines.
     pub placements: Vec<Placement>,
     /// The ranges of the SFrame bytes that are contributions, in the order of the lines.
     pub ranges: Vec<Span>,
-    /// The address of the first of the SFrame bytes; 0 where no line says it.
+    /// The address of the first of the SFrame bytes; 0 where no line states it.
     pub base: u64,
 }
 
 /// Why a layout was not read.
-#[derive(Clone, Copy, Debug, PartialEq, Eq)]
+#[derive(Clone, Copy, Debug, PartialEq, Eq, Error)]
 pub enum LayoutError {
-    /// The line of this number, from 1, is wrong, and no line before it is.
+    /// The line of this number, from 1, is malformed or a second base, and no line before it is.
+    #[error("layout line {0} is malformed")]
     BadLine(u64),
-    /// There was no memory for the placements or the ranges.
+    /// The allocation of memory for the placements or the ranges failed.
+    #[error("out of memory")]
     NoMemory,
 }
 
@@ -49,16 +52,16 @@ impl<T: Drop> From<AllocFailed<T>> for LayoutError {
     }
 }
 
-/// What the lines so far say.
+/// The entries of the lines so far.
 #[derive(Drop)]
-struct Said {
+struct Entries {
     placements: Vec<Placement>,
     ranges: Vec<Span>,
     base: Option<u64>,
 }
 
-/// Adds what the line of this number says.
-fn add_line(said: &mut Said, number: u64, line: Line) -> Result<(), LayoutError>
+/// Adds the entry of the line of this number.
+fn add_line(said: &mut Entries, number: u64, line: Line) -> Result<(), LayoutError>
     ensures right { OnOk result (is_wrong (is_some said.old.base) line ≡ false) }
     ensures placements { OnOk result (said.new.placements.items ≡ said.old.placements.items ++ placements_in line) }
     ensures ranges { OnOk result (said.new.ranges.items ≡ said.old.ranges.items ++ ranges_in line) }
@@ -86,13 +89,15 @@ fn add_line(said: &mut Said, number: u64, line: Line) -> Result<(), LayoutError>
     }
 }
 
-/// Reads a layout. The error is that of its first wrong line; want of memory may be answered for any text that says something.
+/// Reads a layout.
+///
+/// `BadLine`: the first wrong line. `NoMemory`: memory ran out at any line before it.
 pub fn read_layout(alloc: Global, text: &[u8]) -> Result<Layout, LayoutError>
     ensures { MatchResult result
         (λ l. layout_of text.now ≡ Ok (record { placements = l.placements.items; ranges = l.ranges.items; base = l.base }))
         (λ e. IsErrorOf text.now e) }
 {
-    let mut said = Said {
+    let mut said = Entries {
         placements: Vec::new(alloc),
         ranges: Vec::new(alloc),
         base: None,

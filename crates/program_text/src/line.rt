@@ -11,12 +11,12 @@ use crate::pieces::split_word;
 use elf_format::Span;
 use gdb_index_format::Placement;
 
-/// What one line says.
+/// The entry of one line.
 #[derive(Clone, Copy)]
 pub enum Line {
     /// Nothing: it is empty or a comment.
     Skipped,
-    /// Where a section has been put.
+    /// Where a section has been placed.
     Place(Placement),
     /// A range of the SFrame bytes that is one contribution.
     Range(Span),
@@ -26,7 +26,7 @@ pub enum Line {
     Wrong,
 }
 
-/// The number that is the first of some words, and the words behind it; none where there is no word, or it is no number.
+/// Returns the number that is the first of some words, and the words after it; none where there is no word, or it is no number.
 fn next_number(words: Option<&[u8]>) -> Option<(u64, Option<&[u8]>)>
     ensures { MatchOption result
         (first_number (numbers_after (option_map (λ w. w.now) words.entry)) ≡ None)
@@ -38,7 +38,7 @@ fn next_number(words: Option<&[u8]>) -> Option<(u64, Option<&[u8]>)>
     Some((number, rest))
 }
 
-/// Reads what stands behind `place`: object, section, address and size.
+/// Reads what follows `place`: object, section, address and size.
 fn read_place(words: Option<&[u8]>) -> Option<Line>
     ensures { unwrap_or result Line.Wrong ≡ place_of (numbers_after (option_map (λ w. w.now) words.entry)) }
 {
@@ -57,7 +57,7 @@ fn read_place(words: Option<&[u8]>) -> Option<Line>
     }))
 }
 
-/// Reads what stands behind `range`: start and stop.
+/// Reads what follows `range`: start and stop.
 fn read_range(words: Option<&[u8]>) -> Option<Line>
     ensures { unwrap_or result Line.Wrong ≡ range_of (numbers_after (option_map (λ w. w.now) words.entry)) }
 {
@@ -72,7 +72,7 @@ fn read_range(words: Option<&[u8]>) -> Option<Line>
     }))
 }
 
-/// Reads what stands behind `base`: an address.
+/// Reads what follows `base`: an address.
 fn read_base(words: Option<&[u8]>) -> Option<Line>
     ensures { unwrap_or result Line.Wrong ≡ base_of (numbers_after (option_map (λ w. w.now) words.entry)) }
 {

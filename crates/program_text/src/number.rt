@@ -4,7 +4,7 @@
 ghost use Rattle.std.specs.Prelude.{◌≡◌};
 ghost use Rattle.program_text.specs.Number.{number_of};
 
-/// The number that a word writes; none where it writes none.
+/// Returns the number that a word is the decimal text of; none where it is no such text.
 pub fn read_number(word: &[u8]) -> Option<u64>
     ensures { result ≡ number_of word.now }
 {

@@ -6,7 +6,7 @@ ghost use Rattle.program_text.specs.Lines.{lines_of, words_in, words_after};
 
 use memchr::memchr;
 
-/// The first line of a text that is not empty, and what follows its line feed.
+/// Returns the first line of a text that is not empty, and what follows its line feed.
 pub fn split_line(text: &[u8]) -> (&[u8], &[u8])
     requires { 0 < length text.now }
     ensures lines { lines_of text.now ≡ result.0.now ∷ lines_of result.1.now }
@@ -18,7 +18,7 @@ pub fn split_line(text: &[u8]) -> (&[u8], &[u8])
     }
 }
 
-/// The first word of a line, and what follows the space behind it; none where the line ends with the word.
+/// Returns the first word of a line, and what follows the space after it; none where the line ends with the word.
 pub fn split_word(line: &[u8]) -> (&[u8], Option<&[u8]>)
     ensures { words_in line.now ≡ result.0.now ∷ words_after (option_map (λ rest. rest.now) result.1) }
 {

@@ -1,7 +1,7 @@
-//! The report: units, names with their words, the outcome for the SFrame section, and the bytes of both tables, 32 a line.
+//! The report: compilation units (CUs), names with their CU vectors, the outcome for the SFrame section, and the bytes of both tables, 32 a line.
 //!
-//! Every line ends with a line feed. Numbers are decimal, bytes and the words of names lower-case hexadecimal. It is built in one buffer, which
-//! is made as large as it gets.
+//! Every line ends with a line feed. Numbers are decimal, bytes and the elements of CU vectors lower-case hexadecimal. It is built in one
+//! buffer, which is allocated once.
 ghost use Rattle.std.specs.Prelude.{◌≡◌, ◌≤◌, ◌++◌, ◌∷◌, [], length, take, drop, codes, map, IfOk, OnOk};
 ghost use Rattle.std.specs.List.{flat_map};
 ghost use Rattle.hex.specs.Hex.{encode_lower};
@@ -48,7 +48,7 @@ fn push_units(out: &mut Vec<u8>, units: &[CuBoundary]) -> Result<(), AllocError>
     Ok(())
 }
 
-/// The bytes of the first row, and those behind it.
+/// Returns the bytes of the first row, and those after it.
 fn split_row(bytes: &[u8]) -> (&[u8], &[u8])
     ensures row { result.0.now ≡ take ROW bytes.now }
     ensures short { length result.0.now ≤ ROW }
@@ -87,7 +87,7 @@ fn push_digits(out: &mut Vec<u8>, bytes: &[u8]) -> Result<(), AllocError>
     Ok(())
 }
 
-/// Appends the eight digits of each word, each behind a space.
+/// Appends the eight digits of each element of a CU vector, each after a space.
 fn push_words(out: &mut Vec<u8>, words: &[u32]) -> Result<(), AllocError>
     ensures ok { OnOk result (out.new.items ≡ out.old.items ++ flat_map (λ word. codes " " ++ word_digits word) words.now) }
 {
@@ -102,7 +102,7 @@ fn push_words(out: &mut Vec<u8>, words: &[u32]) -> Result<(), AllocError>
     Ok(())
 }
 
-/// Appends the line of a name with its words.
+/// Appends the line of a name with its CU vector.
 fn push_name(out: &mut Vec<u8>, named: &NameWords<'_>) -> Result<(), AllocError>
     ensures ok { OnOk result (out.new.items ≡ out.old.items ++ text_of (name_line named.now ∷ [])) }
 {
@@ -165,7 +165,7 @@ fn push_section(out: &mut Vec<u8>, name: &str, bytes: &[u8]) -> Result<(), Alloc
     Ok(())
 }
 
-/// How many bytes the lines of the names take.
+/// Returns how many bytes the lines of the names take.
 fn room_of_names(names: &[NameWords<'_>]) -> usize {
     let mut room = 0usize;
     for named in names {
@@ -179,7 +179,7 @@ fn room_of_names(names: &[NameWords<'_>]) -> usize {
     room
 }
 
-/// How many bytes the lines of a section's bytes take.
+/// Returns how many bytes the lines of a section's bytes take.
 fn room_of_rows(bytes: &[u8]) -> usize {
     bytes
         .len()
@@ -187,9 +187,9 @@ fn room_of_rows(bytes: &[u8]) -> usize {
         .saturating_add(bytes.len() / ROW + 1)
 }
 
-/// The report of a run, as a text of lines:
+/// Returns the report of a run, as a text of lines:
 ///
-/// `units N`; for each unit `unit K OFFSET LENGTH`, with K from 0; `names N`; for each name `name HEX` and its words in eight digits each, by
+/// `units N`; for each unit `unit K OFFSET LENGTH`, with K from 0; `names N`; for each name `name HEX` and its CU vector in eight digits each, by
 /// spaces, where HEX is `-` for the empty name; `outcome sorted USED`, `outcome none` or `outcome version V`; `index LENGTH` and the bytes
 /// of the index, 32 a line; `sframe LENGTH` and the bytes of the SFrame section, 32 a line.
 pub fn report_text(

@@ -16,7 +16,7 @@ returns-in-Ok-derive_tables-clause-answer g c =
     let are = of_same _ _ P same (record { has = facts.valid; listed = facts.index; ordered = facts.sframe }) in
     let N : ProgramInput → Type 0 = λ i. (error : DeriveError) → HasCauseIn i error → ⊥ in
     let none = of_same _ _ N same facts.exact in
-    after_writing c.args.machine c.args.read.now _ _ _ _ _ _ _ _ _ _ _ _ (ap layout_of (sym c.deref.ensures.value) ∙ c.in-Ok.ensures) are none c.write_report.ensures.answer
+    after_writing c.args.machine c.args.read.now _ _ _ _ _ _ _ _ (ap layout_of (sym c.deref.ensures.value) ∙ c.in-Ok.ensures) are none c.write_report.ensures.answer
 
 pub returns-clause-answer : goal.returns-clause-answer
 returns-clause-answer g c =
@@ -25,5 +25,5 @@ returns-clause-answer g c =
     let P : ProgramInput → Type 0 = λ i. (error ≡ NoMemory) ⊎ HasCauseIn i error in
     let Q : ProgramInput → Type 0 = λ i. HasTables i → error ≡ NoMemory in
     let R : ProgramInput → Type 0 = λ i. (other : DeriveError) → HasCauseIn i other → (error ≡ other) ⊎ (error ≡ NoMemory) in
-    after_refusal c.args.machine c.args.read.now _ _ _ _ _ _ _ _ (ap layout_of (sym c.deref.ensures.value) ∙ c.in-Ok.ensures) (of_same _ _ P same c.in-Err.ensures.cause)
-    (of_same _ _ Q same c.in-Err.ensures.complete) (of_same _ _ R same c.in-Err.ensures.exact) refl c.refusal.ensures
+    after_refusal c.args.machine c.args.read.now _ _ _ _ (ap layout_of (sym c.deref.ensures.value) ∙ c.in-Ok.ensures) (of_same _ _ P same c.in-Err.ensures.cause)
+    (of_same _ _ Q same c.in-Err.ensures.complete) (of_same _ _ R same c.in-Err.ensures.exact) (record { written = refl; puts = refl }) c.from.ensures

@@ -1,15 +1,15 @@
 use Rattle.std.proofs.Common.{◌≡◌, inl, inr}
-use Rattle.derive_program.proofs.ClauseLemmas.{cause_at, bad_words, unwritten_by, done_by, refused_by, complete_by, layout_exact_by, refused_exact_by}
+use Rattle.derive_program.proofs.ClauseLemmas.{cause_at, bad_words, unwritten_by, silent_by, done_by, refused_by, not_span_by, complete_by, complete_or_fault_by, layout_exact_by, refused_exact_by}
 use Rattle.derive_program.proofs.steps.run.Goals as goal
 
 pub returns-clause-words : goal.returns-clause-words
-returns-clause-words g c = λ place. (λ is. (cause_at _ _ _ _ _ c.answer.ensures.cause is).0, λ wrong. bad_words _ _ _ _ place c.answer.ensures.cause wrong)
+returns-clause-words g c = λ index. (λ is. (cause_at _ _ _ _ _ c.answer.ensures.cause is).0, λ wrong. bad_words _ _ _ _ index c.answer.ensures.cause wrong)
 
 pub returns-clause-read_fault : goal.returns-clause-read_fault
-returns-clause-read_fault g c = λ place is. (cause_at _ _ _ _ _ c.answer.ensures.cause is).0
+returns-clause-read_fault g c = λ index is. (cause_at _ _ _ _ _ c.answer.ensures.cause is).0
 
 pub returns-clause-file_too_long : goal.returns-clause-file_too_long
-returns-clause-file_too_long g c = λ place is. (cause_at _ _ _ _ _ c.answer.ensures.cause is).0
+returns-clause-file_too_long g c = λ index is. (cause_at _ _ _ _ _ c.answer.ensures.cause is).0
 
 pub returns-clause-layout : goal.returns-clause-layout
 returns-clause-layout g c = λ line is. (cause_at _ _ _ _ _ c.answer.ensures.cause is).0
@@ -18,16 +18,16 @@ pub returns-clause-refused : goal.returns-clause-refused
 returns-clause-refused g c = refused_by _ _ _ _ c.answer.ensures.cause
 
 pub returns-clause-write_fault : goal.returns-clause-write_fault
-returns-clause-write_fault g c = λ is. (cause_at _ _ _ _ _ c.answer.ensures.cause is).0
+returns-clause-write_fault g c = λ is. (cause_at _ _ _ _ _ c.answer.ensures.cause is).put.rose
 
 pub returns-clause-steady_sink : goal.returns-clause-steady_sink
-returns-clause-steady_sink g c = λ steady is. (cause_at _ _ _ _ _ c.answer.ensures.cause is).1 steady
+returns-clause-steady_sink g c = λ steady is. (cause_at _ _ _ _ _ c.answer.ensures.cause is).put.never steady
 
 pub returns-clause-done : goal.returns-clause-done
 returns-clause-done g c = done_by _ _ _ _ c.answer.ensures.cause
 
 pub returns-clause-cut_off : goal.returns-clause-cut_off
-returns-clause-cut_off g c = λ is. (cause_at _ _ _ _ _ c.answer.ensures.cause is).2
+returns-clause-cut_off g c = λ is. cause_at _ _ _ _ _ c.answer.ensures.cause is
 
 pub returns-clause-unwritten : goal.returns-clause-unwritten
 returns-clause-unwritten g c = λ silent. unwritten_by _ _ _ _ c.answer.ensures.cause silent
@@ -43,3 +43,12 @@ returns-clause-layout_exact g c = λ line wrong files. layout_exact_by _ _ _ lin
 
 pub returns-clause-refused_exact : goal.returns-clause-refused_exact
 returns-clause-refused_exact g c = λ error bad files. refused_exact_by _ _ _ error _ c.answer.ensures.cause bad files
+
+pub returns-clause-silent : goal.returns-clause-silent
+returns-clause-silent g c = λ silent. silent_by _ _ _ _ c.answer.ensures.cause silent
+
+pub returns-clause-not_span : goal.returns-clause-not_span
+returns-clause-not_span g c = not_span_by _ _ _ _ c.answer.ensures.cause
+
+pub returns-clause-complete_or_fault : goal.returns-clause-complete_or_fault
+returns-clause-complete_or_fault g c = λ good. complete_or_fault_by _ _ _ _ c.answer.ensures.cause good

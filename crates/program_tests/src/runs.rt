@@ -1,0 +1,306 @@
+//! Whole runs over files in memory: the report, the line on standard error, the exit status.
+
+use crate::texts::arguments_of;
+use derive_program::{DeriveError, Ran, run};
+use elf_format::SectionIndex;
+use program_io::{MemoryFiles, MemorySink};
+use sframe_format::LargeKind;
+use std::alloc::Global;
+use std::test::Fail;
+
+/// A unit of twelve bytes (DWARF 5, 7.5.1).
+const UNIT: [u8; 12] = [8, 0, 0, 0, 0, 0, 0, 0, 0, 0, 0, 0];
+
+/// The names of the sections of an object.
+const NAMES: &[u8] = b"\0.debug_info\0.debug_gnu_pubnames\0.text\0.shstrtab\0";
+
+/// The report of an object with one unit that publishes `main`, whose code was put at 4096, and of two contributions.
+const REPORT_OF_ALL: &str = "\
+units 1
+unit 0 0 12
+names 1
+name 6d61696e 30000000
+outcome sorted 74
+index 101
+090000001c0000002c0000002c00000040000000500000005800000000000000
+000000000c000000000000000010000000000000101000000000000000000000
+0000000000000000080000000000000000000000000000000100000000000030
+6d61696e00
+sframe 102
+e2de02010300f800020000000200000006000000000000002800000032000000
+1000000000000000010000000000000064000000100000000300000001000000
+00000000b1b2b3a1a2a300000000000000000000000000000000000000000000
+000000000000
+";
+
+/// The set that publishes `main` (GDB manual, "Index Section Format").
+const SET_OF_MAIN: &[u8] = b"\x18\0\0\0\x02\0\0\0\0\0\x0c\0\0\0\x2a\0\0\0\x30main\0\0\0\0\0";
+
+/// Two contributions (SFrame 2), the later function first.
+const FRAMES: [u8; 102] = *b"\
+    \xe2\xde\x02\0\x03\0\xf8\0\x01\0\0\0\x01\0\0\0\x03\0\0\0\0\0\0\0\x14\0\0\0\
+    \x64\0\0\0\x10\0\0\0\0\0\0\0\x01\0\0\0\0\0\0\0\xa1\xa2\xa3\
+    \xe2\xde\x02\0\x03\0\xf8\0\x01\0\0\0\x01\0\0\0\x03\0\0\0\0\0\0\0\x14\0\0\0\
+    \x32\0\0\0\x10\0\0\0\0\0\0\0\x01\0\0\0\0\0\0\0\xb1\xb2\xb3";
+
+/// Where these contributions stand.
+const RANGES: &str = "range 0 51\nrange 51 102\n";
+
+/// The report of an object with one unit.
+const REPORT: &str =
+    "units 1\nunit 0 0 12\nnames 0\noutcome none\nindex 52\n090000001c0000002c0000002c0000002c0000002c0000003400000000000000\n000000000c000000000000000000000000000000\nsframe 0\n";
+
+/// Appends a section's bytes, and its header to the table (System V gABI, "Sections").
+fn push_section(
+    body: &mut Vec<u8>,
+    table: &mut Vec<u8>,
+    name: u32,
+    kind: u32,
+    flags: u64,
+    bytes: &[u8],
+) -> Result<(), Fail> {
+    let offset = (body.len() as u64).saturating_add(64);
+    table.extend_from_slice(&name.to_le_bytes())?;
+    table.extend_from_slice(&kind.to_le_bytes())?;
+    for number in [flags, 0, offset, bytes.len() as u64, 0, 1, 0] {
+        table.extend_from_slice(&number.to_le_bytes())?;
+    }
+    body.extend_from_slice(bytes)?;
+    Ok(())
+}
+
+/// An object with these bytes of `.debug_info` and of `.debug_gnu_pubnames`.
+fn object(
+    alloc: Global,
+    kind: u16,
+    machine: u16,
+    info: &[u8],
+    names: &[u8],
+) -> Result<Vec<u8>, Fail> {
+    let mut body = Vec::new(alloc);
+    let mut table = vec![in alloc; 0u8; 64]?;
+    push_section(&mut body, &mut table, 1, 1, 0, info)?;
+    push_section(&mut body, &mut table, 13, 1, 0, names)?;
+    push_section(&mut body, &mut table, 33, 1, 6, &[0; 16])?;
+    push_section(&mut body, &mut table, 39, 3, 0, NAMES)?;
+    let mut object = b"\x7fELF\x02\x01\x01\0\0\0\0\0\0\0\0\0".to_vec(alloc)?;
+    object.extend_from_slice(&kind.to_le_bytes())?;
+    object.extend_from_slice(&machine.to_le_bytes())?;
+    object.extend_from_slice(&[1, 0, 0, 0])?;
+    object.extend_from_slice(&[0; 16])?;
+    let end = (body.len() as u64).saturating_add(64);
+    object.extend_from_slice(&end.to_le_bytes())?;
+    object.extend_from_slice(&[0, 0, 0, 0, 64, 0, 0, 0, 0, 0, 64, 0, 5, 0, 4, 0])?;
+    object.extend_from_slice(&body)?;
+    object.extend_from_slice(&table)?;
+    Ok(object)
+}
+
+/// Runs a line of arguments over these files: the line, the status, and what was written.
+fn outcome(
+    alloc: Global,
+    line: &str,
+    texts: &[(&str, &[u8])],
+    reads: Vec<u64>,
+    puts: Vec<u64>,
+) -> Result<(String, u8, Vec<u8>), Fail> {
+    let arguments = arguments_of(alloc, line)?;
+    let mut held = Vec::new(alloc);
+    for (name, bytes) in texts {
+        held.push((String::from_str(alloc, name)?, bytes.to_vec(alloc)?))?;
+    }
+    let mut files = MemoryFiles::new(held, reads);
+    let mut out = MemorySink::new(alloc, puts);
+    let ran = run(alloc, &arguments, &mut files, &mut out);
+    let text = ran.to_string(alloc)?;
+    Ok((text, ran.status(), out.written().to_vec(alloc)?))
+}
+
+#[test]
+fn reports(rt: HostRuntime) -> Result<(), Fail> {
+    let alloc = rt.alloc();
+    let all = "# code and frames\nplace 0 3 4096 16\nrange 0 51\nrange 51 102\nbase 8192";
+    for (words, layout, names, report) in [
+        ("tables x86_64 l o", "", b"".as_slice(), REPORT),
+        (
+            "tables x86_64 l --sframe s o",
+            all,
+            SET_OF_MAIN,
+            REPORT_OF_ALL,
+        ),
+    ] {
+        let bytes = object(alloc, 1, 62, &UNIT, names)?;
+        let (text, status, written) = outcome(
+            alloc,
+            words,
+            &[("l", layout.as_bytes()), ("s", &FRAMES), ("o", &bytes)],
+            Vec::new(alloc),
+            Vec::new(alloc),
+        )?;
+        assert_eq!(rt; text.as_str(), "derive: Done");
+        assert_eq!(rt; status, 0);
+        assert_eq!(rt; written.as_slice(), report.as_bytes());
+    }
+    Ok(())
+}
+
+#[test]
+fn objects_without_tables(rt: HostRuntime) -> Result<(), Fail> {
+    let alloc = rt.alloc();
+    let cut = [255, 255, 255, 255, 0, 0, 0, 0];
+    let long = [9, 0, 0, 0, 0, 0, 0, 0, 0, 0, 0, 0];
+    for (kind, machine, info, names, line) in [
+        (
+            1,
+            62,
+            UNIT.as_slice(),
+            b"1".as_slice(),
+            "derive: BadPubnames 0 2",
+        ),
+        (
+            1,
+            62,
+            cut.as_slice(),
+            b"".as_slice(),
+            "derive: BadUnit 0 0 Truncated",
+        ),
+        (
+            1,
+            62,
+            long.as_slice(),
+            b"".as_slice(),
+            "derive: BadUnit 0 0 InvalidLength",
+        ),
+        (
+            1,
+            183,
+            UNIT.as_slice(),
+            b"".as_slice(),
+            "derive: BadElf 0 Machine",
+        ),
+        (
+            3,
+            62,
+            UNIT.as_slice(),
+            b"".as_slice(),
+            "derive: BadElf 0 Header",
+        ),
+    ] {
+        let bytes = object(alloc, kind, machine, info, names)?;
+        let (text, status, written) = outcome(
+            alloc,
+            "tables x86_64 l o",
+            &[("l", b""), ("o", &bytes)],
+            Vec::new(alloc),
+            Vec::new(alloc),
+        )?;
+        assert_eq!(rt; text.as_str(), line);
+        assert_eq!(rt; status, 1);
+        assert_eq!(rt; written.len(), 0);
+    }
+    Ok(())
+}
+
+/// The two contributions, the first with this magic and with its first FRE at this offset.
+fn frames_with(magic: [u8; 2], rows_at: u8) -> [u8; 102] {
+    let mut frames = FRAMES;
+    frames[..2].copy_from_slice(&magic);
+    frames[36] = rows_at;
+    frames
+}
+
+#[test]
+fn layouts_and_frames_without_tables(rt: HostRuntime) -> Result<(), Fail> {
+    let alloc = rt.alloc();
+    let bytes = object(alloc, 1, 62, &UNIT, &[])?;
+    let twice = "place 0 3 4096 16\nplace 0 3 4096 16\n";
+    let magic = [0xe2, 0xde];
+    for (layout, magic, rows_at, line) in [
+        (twice, magic, 0, "derive: BadPlacement 1"),
+        ("range 5 3\n", magic, 0, "derive: BadRange 0"),
+        (RANGES, [0x34, 0x12], 0, "derive: BadMagicBytes 4660 0"),
+        (RANGES, magic, 3, "derive: SframeTruncated FreOffset 28"),
+    ] {
+        let frames = frames_with(magic, rows_at);
+        let (text, status, written) = outcome(
+            alloc,
+            "tables x86_64 l --sframe s o",
+            &[("l", layout.as_bytes()), ("s", &frames), ("o", &bytes)],
+            Vec::new(alloc),
+            Vec::new(alloc),
+        )?;
+        assert_eq!(rt; text.as_str(), line);
+        assert_eq!(rt; status, 1);
+        assert_eq!(rt; written.len(), 0);
+    }
+    Ok(())
+}
+
+#[test]
+fn runs_that_fail(rt: HostRuntime) -> Result<(), Fail> {
+    let alloc = rt.alloc();
+    for (words, read, put, line, code, length) in [
+        ("", 9, 9, "derive: BadWords 0", 2, 0),
+        ("find l 6d", 9, 9, "derive: BadWords 0", 2, 0),
+        ("tables arm", 9, 9, "derive: BadWords 1", 2, 0),
+        ("tables x86_64 l o", 1, 9, "derive: ReadFault 3", 3, 0),
+        ("tables x86_64 l q", 9, 9, "derive: ReadFault 3", 3, 0),
+        ("tables x86_64 p o", 9, 9, "derive: BadLayout 1", 5, 0),
+        (
+            "tables x86_64 l o",
+            9,
+            0,
+            "derive: WriteFault",
+            4,
+            REPORT.len() / 2,
+        ),
+    ] {
+        let bytes = object(alloc, 1, 62, &UNIT, &[])?;
+        let reads = [read].to_vec(alloc)?;
+        let puts = [put].to_vec(alloc)?;
+        let texts: [(&str, &[u8]); 3] = [("l", b""), ("p", b"place 0 3 4096"), ("o", &bytes)];
+        let (text, status, written) = outcome(alloc, words, &texts, reads, puts)?;
+        assert_eq!(rt; text.as_str(), line);
+        assert_eq!(rt; status, code);
+        assert_eq!(rt; written.len(), length);
+    }
+    Ok(())
+}
+
+#[test]
+fn printed_errors(rt: HostRuntime) -> Result<(), Fail> {
+    for (error, line) in [
+        (DeriveError::BadSpan(0), "derive: BadSpan 0"),
+        (
+            DeriveError::CompressedSection(0, SectionIndex(1)),
+            "derive: CompressedSection 0 1",
+        ),
+        (
+            DeriveError::TooManyUnits(16_777_217),
+            "derive: TooManyUnits 16777217",
+        ),
+        (
+            DeriveError::IndexTooLarge(4_294_967_296),
+            "derive: IndexTooLarge 4294967296",
+        ),
+        (
+            DeriveError::SframeTooLarge {
+                kind: LargeKind::Merged,
+                needed: 74,
+                limit: 71,
+            },
+            "derive: SframeTooLarge Merged 74 71",
+        ),
+        (
+            DeriveError::SframeAddressRange {
+                function: 1,
+                value: -2_147_483_649,
+            },
+            "derive: SframeAddressRange 1 -2147483649",
+        ),
+    ] {
+        let text = Ran::Refused(error).to_string(rt.alloc())?;
+        assert_eq!(rt; text.as_str(), line);
+    }
+    Ok(())
+}
