@@ -34,9 +34,9 @@ input_read held words command files said known inside input of =
     })
 
 report_as : (Of To : ProgramInput → Type 0) (index sframe text : List ℕ) (outcome : SframeOutcome) → ((input : ProgramInput) → Of input → To input) → HasReport Of index sframe outcome text → HasReport To index sframe outcome text
-report_as Of To index sframe text outcome as reported = record {
+report_as Of To index sframe text outcome onto reported = record {
   input = reported.input;
-  read = as reported.input reported.read;
+  read = onto reported.input reported.read;
   units = reported.units;
   names = reported.names;
   tables = reported.tables;
@@ -45,13 +45,13 @@ report_as Of To index sframe text outcome as reported = record {
 }
 
 calls_as : (Of To : ProgramInput → Type 0) (writes : Writes) → ((input : ProgramInput) → Of input → To input) → (writes.puts_now ≡ writes.puts) ⊎ IsAttempted Of writes → (writes.puts_now ≡ writes.puts) ⊎ IsAttempted To writes
-calls_as Of To writes as (inl none) = inl none
-calls_as Of To writes as (inr put) = inr (record {
+calls_as Of To writes onto (inl none) = inl none
+calls_as Of To writes onto (inr put) = inr (record {
   index = put.index;
   sframe = put.sframe;
   outcome = put.outcome;
   text = put.text;
-  reported = report_as Of To _ _ _ _ as put.reported;
+  reported = report_as Of To _ _ _ _ onto put.reported;
   once = put.once;
 })
 

@@ -9,14 +9,14 @@ use Rattle.derive_program.specs.declared.ran.Ran.TheVariants.{Done, Refused, Bad
 -- the files of a command that are read for an answer, each once, in the order of its arguments: all of them, those up to the file that was
 -- refused, or, where memory ran out, some of the first
 abbrev pub HasReadFor : Tables → List (List ℕ) → List (List ℕ) → Ran → Type 0
-HasReadFor tables old new (Done tables) = new ≡ old ++ file_names tables
-HasReadFor tables old new (Refused error) = new ≡ old ++ file_names tables
-HasReadFor tables old new (BadWords index) = new ≡ old
-HasReadFor tables old new (BadLayout line) = new ≡ old ++ file_names tables
-HasReadFor tables old new (ReadFault index) = new ≡ old ++ take (files_through tables.sframe index) (file_names tables)
-HasReadFor tables old new (FileTooLong index) = new ≡ old ++ take (files_through tables.sframe index) (file_names tables)
-HasReadFor tables old new WriteFault = new ≡ old ++ file_names tables
-HasReadFor tables old new NoMemory = (n : ℕ) × (new ≡ old ++ take n (file_names tables))
+HasReadFor command old new (Done tables) = new ≡ old ++ file_names command
+HasReadFor command old new (Refused error) = new ≡ old ++ file_names command
+HasReadFor command old new (BadWords index) = new ≡ old
+HasReadFor command old new (BadLayout line) = new ≡ old ++ file_names command
+HasReadFor command old new (ReadFault index) = new ≡ old ++ take (files_through command.sframe index) (file_names command)
+HasReadFor command old new (FileTooLong index) = new ≡ old ++ take (files_through command.sframe index) (file_names command)
+HasReadFor command old new WriteFault = new ≡ old ++ file_names command
+HasReadFor command old new NoMemory = (n : ℕ) × (new ≡ old ++ take n (file_names command))
 
 -- the files that are read for an answer to some arguments: none where the arguments are no command
 abbrev pub HasReadOf : Result Tables ℕ → List (List ℕ) → List (List ℕ) → Ran → Type 0

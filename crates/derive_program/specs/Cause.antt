@@ -1,5 +1,5 @@
 -- Why the program answers as it does: what it read, and what it wrote.
-use Rattle.std.specs.Prelude.{◌≡◌, ◌≢◌, ℕ, ◌++◌, ◌⊎◌, Bool, List, length, Result, Ok, Err, Some, IfSome, IsTrue}
+use Rattle.std.specs.Prelude.{◌≡◌, ◌≢◌, ◌+◌, ℕ, ◌++◌, ◌⊎◌, Bool, List, length, Result, Ok, Err, Some, IfSome, IsTrue}
 use Rattle.elf_format.specs.Span.{AreInside}
 use Rattle.gdb_index_format.specs.declared.unit.CuBoundary.{CuBoundary}
 use Rattle.gdb_index_format.specs.declared.name_words.NameWords.{NameWords}
@@ -17,7 +17,7 @@ use Rattle.program_files.specs.Reading.{Texts, file_limit, read_of}
 use Rattle.derive_program.specs.declared.ran.Ran.{Ran}
 use Rattle.derive_program.specs.declared.ran.Ran.TheVariants.{Done, Refused, BadWords, BadLayout, ReadFault, FileTooLong, WriteFault, NoMemory}
 use Rattle.derive_program.specs.ProgramInput.{texts_of_input, ProgramInput, IsInputOf, derived_from, AreTablesOf, HasTables}
-use Rattle.derive_program.specs.Writing.{Writes, IsSilent, IsPutOnce, IsWritten, IsPrefixWritten}
+use Rattle.derive_program.specs.Writing.{Writes, IsSilent, IsPutOnce, IsReportWritten, IsPrefixWritten}
 
 -- a file that an argument of the command names was not read: where the files are steady, it is the first that is not held, and each before it was read
 pub record IsReadFault (held : Contents) (steady : Bool) (words : List (List ℕ)) (index faults now : ℕ) : Type 0 where
@@ -70,7 +70,7 @@ pub record HasReport (Of : ProgramInput → Type 0) (index sframe : List ℕ) (o
 pub record IsReported (Of : ProgramInput → Type 0) (index sframe : List ℕ) (outcome : SframeOutcome) (writes : Writes) : Type 0 where
   pub text : List ℕ
   pub reported : HasReport Of index sframe outcome text
-  pub put : IsWritten writes text
+  pub put : IsReportWritten writes text
 
 -- the report was put in one call, which failed after a prefix of it
 pub record IsCutOff (Of : ProgramInput → Type 0) (writes : Writes) : Type 0 where

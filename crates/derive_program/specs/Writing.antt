@@ -28,7 +28,7 @@ abbrev pub IsPutOnce : Writes → List ℕ → Type 0
 IsPutOnce writes text = writes.puts_now ≡ writes.puts ++ text ∷ []
 
 -- this text was put in one call, and written whole
-pub record IsWritten (writes : Writes) (text : List ℕ) : Type 0 where
+pub record IsReportWritten (writes : Writes) (text : List ℕ) : Type 0 where
   pub once : IsPutOnce writes text
   pub whole : writes.now ≡ option_map (λ bytes. bytes ++ text) writes.written
 
@@ -43,11 +43,11 @@ pub record IsPrefixWritten (writes : Writes) (text : List ℕ) : Type 0 where
 -- Private step: the report was written, a prefix of it was, or memory ran out before or in the one call.
 abbrev pub IsWritingOf : List CuBoundary → List NameWords → List ℕ → List ℕ → SframeOutcome → Writes → Ran → Type 0
 IsWritingOf units names index sframe outcome writes (Done tables) = 
-    (tables.index.items ≡ index) × (tables.sframe.items ≡ sframe) × (tables.outcome ≡ outcome) × IsWritten writes (report_of units names outcome index sframe)
+    (tables.index.items ≡ index) × (tables.sframe.items ≡ sframe) × (tables.outcome ≡ outcome) × IsReportWritten writes (report_of units names outcome index sframe)
 IsWritingOf units names index sframe outcome writes (Refused error) = ⊥
-IsWritingOf units names index sframe outcome writes (BadWords index) = ⊥
+IsWritingOf units names index sframe outcome writes (BadWords k) = ⊥
 IsWritingOf units names index sframe outcome writes (BadLayout line) = ⊥
-IsWritingOf units names index sframe outcome writes (ReadFault index) = ⊥
-IsWritingOf units names index sframe outcome writes (FileTooLong index) = ⊥
+IsWritingOf units names index sframe outcome writes (ReadFault k) = ⊥
+IsWritingOf units names index sframe outcome writes (FileTooLong k) = ⊥
 IsWritingOf units names index sframe outcome writes WriteFault = IsPrefixWritten writes (report_of units names outcome index sframe)
 IsWritingOf units names index sframe outcome writes NoMemory = (writes.now ≡ writes.written) × ((writes.puts_now ≡ writes.puts) ⊎ IsPutOnce writes (report_of units names outcome index sframe))

@@ -1,7 +1,7 @@
 //! A list of byte strings that only clauses read. It takes no bytes, and its methods do nothing when they run.
 //!
 //! `Files` and `Sink` keep one of them: the names that were read, the texts that were put. Nothing but the clauses here ties its value to
-//! the calls, so it tells of code that is generic over these traits.
+//! the calls, so it says something of code that is generic over these traits.
 ghost use Rattle.std.specs.Prelude.{◌≡◌, ℕ, List, [], ◌∷◌, ◌++◌};
 ghost use Rattle.std.specs.Borrow.{ftrue};
 

@@ -1,7 +1,7 @@
 -- A line whose words go on after its last number is wrong.
 use Rattle.std.proofs.Common.{◌≡◌, ◌==◌, ℕ, List, [], ◌∷◌, Bool, true, false, map, refl, ap, Bor, option_map, is_some, if◌then◌else◌}
 use Rattle.std.specs.Prelude.{Option, Some, None}
-use Rattle.program_text.specs.Lines.{lengthen, words_in}
+use Rattle.program_text.specs.Lines.{lengthen, line_words}
 use Rattle.program_text.specs.Number.{number_of}
 use Rattle.program_text.specs.Layout.{numbers_after}
 
@@ -20,9 +20,9 @@ at true byte pieces = record { first = []; others = pieces; are = refl }
 at false byte pieces = lengthened byte pieces
 
 -- a line has a word
-some_word : (line : List ℕ) → AreSome (words_in line)
+some_word : (line : List ℕ) → AreSome (line_words line)
 some_word [] = record { first = []; others = []; are = refl }
-some_word (byte ∷ line) = at (byte == 32) byte (words_in line)
+some_word (byte ∷ line) = at (byte == 32) byte (line_words line)
 
 -- the numbers of more words are one at least
 pub record GoOn (numbers : List (Option ℕ)) : Type 0 where

@@ -10,7 +10,7 @@ use Rattle.program_text.specs.declared.line.Line.TheVariants.{Skipped, Place, Ra
 use Rattle.program_text.specs.declared.layout.LayoutError.{LayoutError}
 use Rattle.program_text.specs.declared.layout.LayoutError.TheVariants.{BadLine, NoMemory}
 use Rattle.program_text.specs.Command.{is_word}
-use Rattle.program_text.specs.Lines.{lines_of, words_in, words_after}
+use Rattle.program_text.specs.Lines.{lines_of, line_words, words_after}
 use Rattle.program_text.specs.Number.{number_of}
 
 -- where sections were put, the ranges of the SFrame bytes, and the address of the first of these bytes
@@ -29,10 +29,10 @@ first_number [] = None
 first_number (number ∷ numbers) = number
 
 -- the numbers after `place`: object, section, address and size
-abbrev pub place_of : List (Option ℕ) → Line
-place_of (Some object ∷ Some section ∷ Some address ∷ Some size ∷ []) =
+abbrev pub place_line : List (Option ℕ) → Line
+place_line (Some object ∷ Some section ∷ Some address ∷ Some size ∷ []) =
     Place (record { object = object; section = section; address = address; size = size })
-place_of _ = Wrong
+place_line _ = Wrong
 
 -- the numbers after `range`: start and stop
 abbrev pub range_of : List (Option ℕ) → Line
@@ -47,7 +47,7 @@ base_of _ = Wrong
 -- the entry of a keyword and the numbers after it
 abbrev pub entry_of : List ℕ → List (Option ℕ) → Line
 entry_of keyword numbers =
-    if is_word keyword (codes "place") then place_of numbers
+    if is_word keyword (codes "place") then place_line numbers
     else if is_word keyword (codes "range") then range_of numbers
     else if is_word keyword (codes "base") then base_of numbers
     else Wrong
@@ -60,7 +60,7 @@ words_say (keyword ∷ words) = entry_of keyword (map number_of words)
 -- the entry of the bytes of a line
 abbrev pub line_of : List ℕ → Line
 line_of [] = Skipped
-line_of (byte ∷ bytes) = if byte == 35 then Skipped else words_say (words_in (byte ∷ bytes))
+line_of (byte ∷ bytes) = if byte == 35 then Skipped else words_say (line_words (byte ∷ bytes))
 
 -- the placements, the ranges and the base of one line
 abbrev pub placements_in : Line → List Placement

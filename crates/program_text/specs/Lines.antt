@@ -17,13 +17,13 @@ abbrev pub lines_of : List ℕ → List (List ℕ)
 lines_of text = pieces_of 10 [] text
 
 -- the words of a line, which stand between single spaces: at least one, and an empty one wherever a space has no word beside it
-abbrev pub words_in : List ℕ → List (List ℕ)
-words_in line = pieces_of 32 ([] ∷ []) line
+abbrev pub line_words : List ℕ → List (List ℕ)
+line_words line = pieces_of 32 ([] ∷ []) line
 
 -- the words after a word, where a space follows it, and none else
 abbrev pub words_after : Option (List ℕ) → List (List ℕ)
 words_after None = []
-words_after (Some line) = words_in line
+words_after (Some line) = line_words line
 
 -- the text of lines: each ends with a line feed
 abbrev pub text_of : List (List ℕ) → List ℕ

@@ -3,8 +3,8 @@
 //! Its words stand between single spaces, and its numbers are decimal. An empty line and a line that begins with `#` are skipped.
 ghost use Rattle.std.specs.Prelude.{◌≡◌, ◌∷◌, option_map, MatchOption};
 ghost use Rattle.std.specs.Option.{unwrap_or};
-ghost use Rattle.program_text.specs.Layout.{numbers_after, first_number, place_of, range_of, base_of, words_say, line_of};
-ghost use Rattle.program_text.specs.Lines.{words_in};
+ghost use Rattle.program_text.specs.Layout.{numbers_after, first_number, place_line, range_of, base_of, words_say, line_of};
+ghost use Rattle.program_text.specs.Lines.{line_words};
 
 use crate::number::read_number;
 use crate::pieces::split_word;
@@ -40,7 +40,7 @@ fn next_number(words: Option<&[u8]>) -> Option<(u64, Option<&[u8]>)>
 
 /// Reads what follows `place`: object, section, address and size.
 fn read_place(words: Option<&[u8]>) -> Option<Line>
-    ensures { unwrap_or result Line.Wrong ≡ place_of (numbers_after (option_map (λ w. w.now) words.entry)) }
+    ensures { unwrap_or result Line.Wrong ≡ place_line (numbers_after (option_map (λ w. w.now) words.entry)) }
 {
     let (object, words) = next_number(words)?;
     let (section, words) = next_number(words)?;
@@ -85,7 +85,7 @@ fn read_base(words: Option<&[u8]>) -> Option<Line>
 
 /// Reads a line that is not skipped; none where it is wrong.
 fn read_entry(line: &[u8]) -> Option<Line>
-    ensures { unwrap_or result Line.Wrong ≡ words_say (words_in line.now) }
+    ensures { unwrap_or result Line.Wrong ≡ words_say (line_words line.now) }
 {
     let (keyword, words) = split_word(line);
     match keyword {

@@ -2,7 +2,7 @@
 //!
 //! A line ends before a line feed or with the text; words stand between single spaces. No byte is copied.
 ghost use Rattle.std.specs.Prelude.{◌≡◌, ◌∷◌, ◌<◌, length, option_map};
-ghost use Rattle.program_text.specs.Lines.{lines_of, words_in, words_after};
+ghost use Rattle.program_text.specs.Lines.{lines_of, line_words, words_after};
 
 use memchr::memchr;
 
@@ -20,7 +20,7 @@ pub fn split_line(text: &[u8]) -> (&[u8], &[u8])
 
 /// Returns the first word of a line, and what follows the space after it; none where the line ends with the word.
 pub fn split_word(line: &[u8]) -> (&[u8], Option<&[u8]>)
-    ensures { words_in line.now ≡ result.0.now ∷ words_after (option_map (λ rest. rest.now) result.1) }
+    ensures { line_words line.now ≡ result.0.now ∷ words_after (option_map (λ rest. rest.now) result.1) }
 {
     match memchr(b' ', line) {
         Some(end) => (&line[..end], Some(&line[end + 1..])),
