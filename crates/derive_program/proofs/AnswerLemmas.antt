@@ -1,5 +1,5 @@
 -- From what the tables and the writing came to, to the answer.
-use Rattle.std.proofs.Common.{◌≡◌, ◌≢◌, ℕ, ◌++◌, Bool, List, take, Option, option_map, Result, Ok, Err, IsTrue, refl, sym, ap, subst, ◌∙◌, ◌⊎◌, inl, inr}
+use Rattle.std.proofs.Common.{◌≡◌, ℕ, List, Ok, refl, sym, ap, subst, ◌∙◌, ◌⊎◌, inl, inr}
 use Rattle.elf_format.specs.declared.architecture.Architecture.{Architecture}
 use Rattle.elf_format.specs.declared.index.Span.{Span}
 use Rattle.gdb_index_format.specs.declared.placement.Placement.{Placement}
@@ -14,7 +14,6 @@ use Rattle.program_text.specs.Report.{report_of}
 use Rattle.derive_program.specs.declared.ran.Ran.{Ran}
 use Rattle.derive_program.specs.declared.ran.Ran.TheVariants.{Done, Refused, BadWords, BadLayout, ReadFault, FileTooLong, WriteFault, NoMemory}
 use Rattle.derive_program.specs.Answer.{program_input_of, IsInputOfFiles, IsAnswerFor, IsRefusalOf}
-use Rattle.derive_program.specs.Calls.{write_faults_after}
 use Rattle.derive_program.specs.Cause.{HasCauseIn, HasReport, IsAttempted}
 use Rattle.derive_program.specs.ProgramInput.{ProgramInput, AreTablesOf, HasTables}
 use Rattle.derive_program.specs.Writing.{Writes, IsSilent, IsPutOnce, IsWritingOf}
@@ -123,14 +122,3 @@ after_refusal machine files layout error writes (BadWords k) laid cause complete
 after_refusal machine files layout error writes (BadLayout line) laid cause complete exact silent never = absurd never
 after_refusal machine files layout error writes (ReadFault k) laid cause complete exact silent never = absurd never
 after_refusal machine files layout error writes (FileTooLong k) laid cause complete exact silent never = absurd never
-
--- a refusal counts no fault of the sink
-pub refusal_counts : (error : DeriveError) (ran : Ran) (before : ℕ) → IsRefusalOf error ran → before ≡ write_faults_after ran before
-refusal_counts error (Refused answered) before is = refl
-refusal_counts error NoMemory before is = refl
-refusal_counts error (Done tables) before is = refl
-refusal_counts error WriteFault before never = absurd never
-refusal_counts error (BadWords k) before is = refl
-refusal_counts error (BadLayout line) before is = refl
-refusal_counts error (ReadFault k) before is = refl
-refusal_counts error (FileTooLong k) before is = refl

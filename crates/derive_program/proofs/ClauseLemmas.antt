@@ -1,5 +1,5 @@
 -- The clauses of a run, each from the cause of its answer.
-use Rattle.std.proofs.Common.{◌≡◌, ◌≢◌, ℕ, ◌⊎◌, length, Bool, true, false, List, Option, Some, None, IfSome, Result, Ok, Err, IsTrue, refl, sym, ap, subst, ◌∙◌, inl, inr}
+use Rattle.std.proofs.Common.{◌≡◌, ◌≢◌, ℕ, ◌⊎◌, length, false, List, Some, IfSome, Result, Ok, Err, IsTrue, refl, sym, ap, subst, ◌∙◌, inl, inr}
 use Rattle.std.proofs.lemmas.Bool.{false≢true}
 use Rattle.elf_format.specs.Span.{AreInside}
 use Rattle.sframe_format.specs.declared.fault.SframeOutcome.{SframeOutcome}
@@ -11,7 +11,7 @@ use Rattle.program_files.specs.Reading.{Texts, read_of}
 use Rattle.program_io.specs.Contents.{Contents}
 use Rattle.program_io.specs.Counting.{Rose}
 use Rattle.program_text.specs.Command.{Tables, command_of}
-use Rattle.program_text.specs.Layout.{LayoutEntries, layout_of}
+use Rattle.program_text.specs.Layout.{layout_of}
 use Rattle.derive_program.specs.declared.ran.Ran.{Ran}
 use Rattle.derive_program.specs.declared.ran.Ran.TheVariants.{Done, Refused, BadWords, BadLayout, ReadFault, FileTooLong, WriteFault, NoMemory}
 use Rattle.derive_program.specs.Cause.{Reads, IsRunOf, HasCauseIn, IsReadable, IsInputFrom, IsGood, IsFaulty, IsBadLayout, IsWrongLayout, HasReport, IsRefused, IsReported, IsUnwritten, IsDoneOrNoMemory, IsDoneOrFault, IfDone, IfRefused}

@@ -1,24 +1,23 @@
 -- From the answer for the files that were read to the answer of the whole run.
-use Rattle.std.proofs.Common.{◌≡◌, ◌≢◌, ℕ, ◌++◌, Bool, true, false, List, length, take, Option, Some, None, IfSome, option_map, Result, Ok, Err, IsTrue, refl, sym, ap, subst, ◌∙◌, ◌⊎◌, inl, inr}
+use Rattle.std.proofs.Common.{◌≡◌, ◌+◌, ℕ, ◌++◌, List, length, IfSome, Result, Ok, Err, IsTrue, refl, sym, ap, subst, ◌∙◌, ◌⊎◌, inl, inr}
 use Rattle.std.proofs.Math.Seq.{take-length}
 use Rattle.sframe_format.specs.declared.fault.SframeOutcome.{SframeOutcome}
 use Rattle.elf_format.specs.declared.architecture.Architecture.{Architecture}
-use Rattle.elf_format.specs.declared.index.Span.{Span}
 use Rattle.elf_format.specs.Span.{AreInside}
 use Rattle.program_files.specs.declared.files_read.FilesRead.{FilesRead}
 use Rattle.program_files.specs.declared.error.ReadError.{ReadError}
 use Rattle.program_files.specs.declared.error.ReadError.TheVariants as read
-use Rattle.program_files.specs.Reading.{texts_read, read_of, file_names, HasRead, faults_after_reading}
+use Rattle.program_files.specs.Reading.{file_limit, texts_read, read_of, file_names}
 use Rattle.program_io.specs.Contents.{Contents}
-use Rattle.program_text.specs.Command.{Tables, command_of}
-use Rattle.program_text.specs.Layout.{LayoutEntries, layout_of}
+use Rattle.program_io.specs.Counting.{Rose, RoseBy}
+use Rattle.program_text.specs.Command.{Tables, command_of, NamesFile}
 use Rattle.derive_program.specs.declared.ran.Ran.{Ran}
 use Rattle.derive_program.specs.declared.ran.Ran.TheVariants.{Done, Refused, BadWords, BadLayout, ReadFault, FileTooLong, WriteFault, NoMemory}
 use Rattle.derive_program.specs.Answer.{IsInputOfFiles, IsAnswerFor, ran_of_reading}
-use Rattle.derive_program.specs.Calls.{HasReadFor, HasReadOf, read_faults_after, write_faults_after}
+use Rattle.derive_program.specs.Calls.{HasReadFor, HasReadOf, read_faults_after}
 use Rattle.derive_program.specs.Cause.{HasReport, IsAttempted, Reads, IsRunOf}
 use Rattle.derive_program.specs.ProgramInput.{ProgramInput, IsInputOf}
-use Rattle.derive_program.specs.Writing.{Writes}
+use Rattle.derive_program.specs.Writing.{Writes, IsSilent}
 
 -- files that a command's arguments name, as an input of the arguments
 input_read : (held : Contents) (words : List (List ℕ)) (command : Tables) (files : FilesRead) → command_of words ≡ Ok command → IfSome held (λ contents. read_of contents command ≡ Ok (texts_read files)) → AreInside (length files.buffer.items) files.objects.items → (input : ProgramInput) → IsInputOfFiles command.machine files input → IsInputOf held words input
@@ -129,31 +128,21 @@ counted_after machine files writes before now (BadWords k) same cause = same
 counted_after machine files writes before now (ReadFault k) same never = absurd never
 counted_after machine files writes before now (FileTooLong k) same cause = same
 
--- the reading that an error ended
-error_reads : {T : Type 0} (command : Tables) (old new : List (List ℕ)) (error : ReadError) → HasRead command old new (let r : Result T ReadError = Err error in r) → HasReadFor command old new (ran_of_reading error)
-error_reads command old new (read.Unread k) has = has
-error_reads command old new (read.TooLong k) has = has
-error_reads command old new read.NoMemory has = has
+-- the answer to an error of reading, with its cause
+pub run_of_error : (words : List (List ℕ)) (reads : Reads) (writes : Writes) (command : Tables) (error : ReadError) (ran : Ran) → command_of words ≡ Ok command → ran ≡ ran_of_reading error → IsSilent writes → ((k : ℕ) → error ≡ read.Unread k → NamesFile command k × Rose reads.faults reads.faults_now) → ((k : ℕ) → error ≡ read.TooLong k → NamesFile command k × RoseBy (file_limit + 1) reads.taken reads.taken_now) → ((k : ℕ) → error ≡ read.TooLong k → IfSome reads.held (λ files. read_of files command ≡ Err (read.TooLong k))) → ((k : ℕ) → error ≡ read.Unread k → IsTrue reads.steady → IfSome reads.held (λ files. read_of files command ≡ Err (read.Unread k))) → IsRunOf words reads writes ran
+run_of_error words reads writes command error ran said is silent unread too_long longer missing =
+    subst (IsRunOf words reads writes) (sym is) (at error unread too_long longer missing)
+  where
+    at : (error : ReadError) → ((k : ℕ) → error ≡ read.Unread k → NamesFile command k × Rose reads.faults reads.faults_now) → ((k : ℕ) → error ≡ read.TooLong k → NamesFile command k × RoseBy (file_limit + 1) reads.taken reads.taken_now) → ((k : ℕ) → error ≡ read.TooLong k → IfSome reads.held (λ files. read_of files command ≡ Err (read.TooLong k))) → ((k : ℕ) → error ≡ read.Unread k → IsTrue reads.steady → IfSome reads.held (λ files. read_of files command ≡ Err (read.Unread k))) → IsRunOf words reads writes (ran_of_reading error)
+    at (read.Unread k) unread too_long longer missing = (
+      record { command = command; said = said; names = (unread k refl).0; rose = (unread k refl).1; missing = missing k refl },
+      silent,
+    )
+    at (read.TooLong k) unread too_long longer missing = (
+      record { command = command; said = said; names = (too_long k refl).0; took = (too_long k refl).1; longer = longer k refl },
+      silent,
+    )
+    at read.NoMemory unread too_long longer missing = ((command, said), record { written = silent.written; calls = inl silent.puts })
 
-pub reads_at_error : (T : Type 0) (result : Result Tables ℕ) (command : Tables) (old new : List (List ℕ)) (error : ReadError) (ran : Ran) → result ≡ Ok command → ran ≡ ran_of_reading error → HasRead command old new (let r : Result T ReadError = Err error in r) → HasReadOf result old new ran
-reads_at_error T result command old new error ran said is has =
-    let P : Ran → Type 0 = λ r. HasReadFor command old new r in
-    read_for result command old new ran said (subst P (sym is) (error_reads {T = T} command old new error has))
-
-error_counts : {T : Type 0} (before : ℕ) (error : ReadError) → faults_after_reading (let r : Result T ReadError = Err error in r) before ≡ read_faults_after (ran_of_reading error) before
-error_counts before (read.Unread k) = refl
-error_counts before (read.TooLong k) = refl
-error_counts before read.NoMemory = refl
-
-pub counted_at_error : (T : Type 0) (before now : ℕ) (error : ReadError) (ran : Ran) → ran ≡ ran_of_reading error → now ≡ faults_after_reading (let r : Result T ReadError = Err error in r) before → now ≡ read_faults_after ran before
-counted_at_error T before now error ran is counts =
-    counts ∙ error_counts {T = T} before error ∙ ap (λ r. read_faults_after r before) (sym is)
-
-silent_error : (before : ℕ) (error : ReadError) → before ≡ write_faults_after (ran_of_reading error) before
-silent_error before (read.Unread k) = refl
-silent_error before (read.TooLong k) = refl
-silent_error before read.NoMemory = refl
-
--- an error of reading counts no fault of the sink
-pub silent_counts : (before : ℕ) (error : ReadError) (ran : Ran) → ran ≡ ran_of_reading error → before ≡ write_faults_after ran before
-silent_counts before error ran is = silent_error before error ∙ ap (λ r. write_faults_after r before) (sym is)
+pub error_of : {T : Type 0} (a b : ReadError) → a ≡ b → (let r : Result T ReadError = Err a in r) ≡ Err b
+error_of a b is = ap (λ e. Err e) is

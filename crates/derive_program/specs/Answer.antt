@@ -1,5 +1,5 @@
 -- Private steps: what the program answers for the files that it read. Only private contracts cite it.
-use Rattle.std.specs.Prelude.{◌≡◌, ◌≢◌, ℕ, List, Result, Ok, Err}
+use Rattle.std.specs.Prelude.{◌≡◌, ◌≢◌, Ok, Err}
 use Rattle.elf_format.specs.declared.architecture.Architecture.{Architecture}
 use Rattle.derivation.specs.declared.error.DeriveError.{DeriveError}
 use Rattle.derivation.specs.declared.error.DeriveError.TheVariants as errors

@@ -1,5 +1,5 @@
 -- What tables are derived from, and the tables that it has.
-use Rattle.std.specs.Prelude.{◌≡◌, ℕ, List, length, Result, Ok, IfSome}
+use Rattle.std.specs.Prelude.{◌≡◌, ℕ, List, length, Ok, IfSome}
 use Rattle.elf_format.specs.declared.architecture.Architecture.{Architecture}
 use Rattle.elf_format.specs.declared.index.Span.{Span}
 use Rattle.gdb_index_format.specs.declared.unit.CuBoundary.{CuBoundary}

@@ -42,7 +42,7 @@ pub record IsPrefixWritten (writes : Writes) (text : List ℕ) : Type 0 where
 
 -- Private step: the report was written, a prefix of it was, or memory ran out before or in the one call.
 abbrev pub IsWritingOf : List CuBoundary → List NameWords → List ℕ → List ℕ → SframeOutcome → Writes → Ran → Type 0
-IsWritingOf units names index sframe outcome writes (Done tables) = 
+IsWritingOf units names index sframe outcome writes (Done tables) =
     (tables.index.items ≡ index) × (tables.sframe.items ≡ sframe) × (tables.outcome ≡ outcome) × IsReportWritten writes (report_of units names outcome index sframe)
 IsWritingOf units names index sframe outcome writes (Refused error) = ⊥
 IsWritingOf units names index sframe outcome writes (BadWords k) = ⊥

@@ -1,9 +1,10 @@
 //! Files and sinks in memory, the system's files, and readers and writers of the tests' own.
 
-use program_io::{
-    DiskFiles, FileFault, Files, MemoryFiles, MemorySink, Sink, SinkFault, StreamSink, read_to_limit,
-};
 use derive_program::{Ran, collect_words};
+use program_io::{
+    DiskFiles, FileFault, Files, MemoryFiles, MemorySink, Sink, SinkFault, StreamSink,
+    read_to_limit,
+};
 use std::env::FillError;
 use std::test::Fail;
 
@@ -122,7 +123,10 @@ fn a_reader_to_its_end(rt: HostRuntime) -> Result<(), Fail> {
         let mut reader = Failing { left: 5, failing };
         let mut out = [1].to_vec(alloc)?;
         let mut taken = 0u64;
-        assert_eq!(rt; read_to_limit(&mut reader, &mut out, limit, &mut taken), answer);
+        assert_eq!(rt;
+            read_to_limit(&mut reader, &mut out, limit, &mut taken),
+            answer
+        );
         assert_eq!(rt; out.len(), length);
     }
     Ok(())

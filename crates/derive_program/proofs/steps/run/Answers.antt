@@ -1,4 +1,4 @@
-use Rattle.std.proofs.Common.{◌≡◌, inl, inr}
+use Rattle.std.proofs.Common.{inl, inr}
 use Rattle.derive_program.proofs.ClauseLemmas.{cause_at, bad_words, unwritten_by, silent_by, done_by, refused_by, not_span_by, complete_by, complete_or_fault_by, layout_exact_by, refused_exact_by}
 use Rattle.derive_program.proofs.steps.run.Goals as goal
 
