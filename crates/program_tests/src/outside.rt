@@ -93,6 +93,7 @@ fn a_stream(rt: HostRuntime) -> Result<(), Fail> {
 }
 
 /// A reader of five bytes, two at a time, which fails at the read of this number.
+#[derive(Drop)]
 struct Failing {
     left: u8,
     failing: u8,
@@ -133,6 +134,7 @@ fn a_reader_to_its_end(rt: HostRuntime) -> Result<(), Fail> {
 }
 
 /// Arguments of the test's own: the program's name, then these.
+#[derive(Drop)]
 struct OwnArguments {
     last: &'static [u8],
 }
