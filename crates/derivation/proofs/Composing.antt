@@ -13,9 +13,14 @@ use Rattle.sframe_format.specs.Valid as frames
 use Rattle.derivation.specs.declared.error.DeriveError.{DeriveError}
 use Rattle.derivation.specs.declared.error.DeriveError.TheVariants.{BadPlacement, NoMemory}
 use Rattle.derivation.specs.Input.{Input}
-use Rattle.derivation.specs.Objects.{objects_of, parsed_of, index_version}
-use Rattle.derivation.specs.Valid.{HasSpans, HasObjects, HasPlacements, HasIndex, AreRelocated, HasRelocations, IsValid}
-use Rattle.derivation.specs.Cause.{IsUnsized, IsUnrelocated, IsUnordered, HasCause, in_placements, in_index, in_relocations, in_sframe}
+use Rattle.derivation.specs.Objects.{objects_of, parsed_of}
+use Rattle.gdb_index_format.specs.Version.{index_version}
+use Rattle.gdb_scan.specs.declared.error.GdbError.{GdbError}
+use Rattle.gdb_tables.specs.Index as build
+use Rattle.gdb_tables.specs.Index.{AreRelocated, IsBuildCause, in_size}
+use Rattle.derivation.proofs.Refusing.{unsized, unrelocated}
+use Rattle.derivation.specs.Valid.{HasSpans, HasObjects, HasPlacements, HasIndex, HasRelocations, IsValid}
+use Rattle.derivation.specs.Cause.{of_gdb_error, IsUnsized, IsUnrelocated, IsUnordered, HasCause, in_placements, in_index, in_relocations, in_sframe}
 
 bytes_again : (buffer : List ℕ) (list : List Span) → file_bytes (parsed_of buffer list) ≡ objects_of buffer list
 bytes_again buffer [] = refl
@@ -46,21 +51,23 @@ pub misplaced_cause : (input : Input) (parsed : List Parsed) (place : ℕ) → p
 misplaced_cause input parsed place same inside sound found =
     in_placements inside sound (place, refl, subst (λ (files : List (List ℕ)). misplaced class64 files input.placements ≡ Some place) (bytes_are input parsed same) (sym found))
 
-pub index_cause : (input : Input) (parsed : List Parsed) (e : DeriveError) → parsed ≡ parsed_of input.buffer input.objects → HasSpans input → HasObjects input → ArePlacedIn class64 (file_bytes parsed) input.placements
-    → (e ≡ NoMemory) ⊎ (IsUnsized (file_bytes parsed) input.placements e ⊎ (IsIndexable index_version class64 (file_bytes parsed) input.placements × IsUnrelocated parsed e)) → (e ≡ NoMemory) ⊎ HasCause input e
-index_cause input parsed e same inside sound placed cause =
-    elim cause [
+pub index_cause : (input : Input) (parsed : List Parsed) (g : GdbError) (e : DeriveError) → parsed ≡ parsed_of input.buffer input.objects → HasSpans input → HasObjects input → ArePlacedIn class64 (file_bytes parsed) input.placements
+    → e ≡ of_gdb_error g → IsBuildCause class64 parsed input.placements g → (e ≡ NoMemory) ⊎ HasCause input e
+index_cause input parsed g e same inside sound placed told (in_size cause) =
+    elim (unsized (file_bytes parsed) input.placements g e told cause) [
       | inl memory ↦ inl memory
-      | inr other ↦ inr (elim other [
-        | inl unsized ↦ in_index inside sound (placed_at input parsed same placed) (subst (λ (files : List (List ℕ)). IsUnsized files input.placements e) (bytes_are input parsed same) unsized)
-        | inr unrelocated ↦ in_relocations inside sound (placed_at input parsed same placed) (indexed_at input parsed same unrelocated.0) (subst (λ (fs : List Parsed). IsUnrelocated fs e) same unrelocated.1)
-      ])
+      | inr other ↦ inr (in_index inside sound (placed_at input parsed same placed) (subst (λ (files : List (List ℕ)). IsUnsized files input.placements e) (bytes_are input parsed same) other))
+    ]
+index_cause input parsed g e same inside sound placed told (build.in_relocations index uss held cause) =
+    elim (unrelocated parsed uss g e told held cause) [
+      | inl memory ↦ inl memory
+      | inr other ↦ inr (in_relocations inside sound (placed_at input parsed same placed) (indexed_at input parsed same index) (subst (λ (fs : List Parsed). IsUnrelocated fs e) same other))
     ]
 
-relocated_at : (input : Input) (parsed : List Parsed) → parsed ≡ parsed_of input.buffer input.objects → AreRelocated parsed → HasRelocations input
-relocated_at input parsed same relocated = subst (λ (fs : List Parsed). AreRelocated fs) same relocated
+relocated_at : (input : Input) (parsed : List Parsed) → parsed ≡ parsed_of input.buffer input.objects → AreRelocated class64 parsed → HasRelocations input
+relocated_at input parsed same relocated = subst (λ (fs : List Parsed). AreRelocated class64 fs) same relocated
 
-pub valid_input : (input : Input) (parsed : List Parsed) → parsed ≡ parsed_of input.buffer input.objects → HasSpans input → HasObjects input → ArePlacedIn class64 (file_bytes parsed) input.placements → IsIndexable index_version class64 (file_bytes parsed) input.placements → AreRelocated parsed → frames.IsSortable input.sframe input.ranges → IsValid input
+pub valid_input : (input : Input) (parsed : List Parsed) → parsed ≡ parsed_of input.buffer input.objects → HasSpans input → HasObjects input → ArePlacedIn class64 (file_bytes parsed) input.placements → IsIndexable index_version class64 (file_bytes parsed) input.placements → AreRelocated class64 parsed → frames.IsSortable input.sframe input.ranges → IsValid input
 valid_input input parsed same inside sound placed indexable relocated ordered = record {
   spans = inside;
   objects = sound;
@@ -70,7 +77,7 @@ valid_input input parsed same inside sound placed indexable relocated ordered = 
   sframe = ordered;
 }
 
-pub sframe_cause : (input : Input) (parsed : List Parsed) (e : DeriveError) → parsed ≡ parsed_of input.buffer input.objects → HasSpans input → HasObjects input → ArePlacedIn class64 (file_bytes parsed) input.placements → IsIndexable index_version class64 (file_bytes parsed) input.placements → AreRelocated parsed
+pub sframe_cause : (input : Input) (parsed : List Parsed) (e : DeriveError) → parsed ≡ parsed_of input.buffer input.objects → HasSpans input → HasObjects input → ArePlacedIn class64 (file_bytes parsed) input.placements → IsIndexable index_version class64 (file_bytes parsed) input.placements → AreRelocated class64 parsed
     → (e ≡ NoMemory) ⊎ IsUnordered input.sframe input.ranges e → (e ≡ NoMemory) ⊎ HasCause input e
 sframe_cause input parsed e same inside sound placed indexable relocated cause =
     elim cause [

@@ -17,8 +17,8 @@ use Rattle.elf_format.specs.declared.index.Span.{Span}
 use Rattle.elf_format.specs.Class.{class64}
 use Rattle.elf_format.specs.Span.{IsInside, AreInside, is_inside}
 use Rattle.elf_view.specs.Parsed.{Parsed}
-use Rattle.gdb_index_format.specs.Published.{Object}
-use Rattle.gdb_index_format.proofs.ObjectLists.{objects_are_one_lem}
+use Rattle.gdb_index_format.specs.declared.unit.CuBoundary.{CuBoundary}
+use Rattle.gdb_index_format.proofs.ObjectLists.{one_unit_lists}
 use Rattle.gdb_tables.specs.Addresses.{first_relocation_fault}
 use Rattle.gdb_tables.specs.Files as files
 use Rattle.gdb_tables.proofs.Misplacing.{placed_none}
@@ -28,11 +28,13 @@ use Rattle.sframe_order.proofs.OneResult.{only_memory}
 use Rattle.derivation.specs.declared.error.DeriveError.{DeriveError}
 use Rattle.derivation.specs.declared.error.DeriveError.TheVariants as errors
 use Rattle.derivation.specs.Input.{Input}
-use Rattle.derivation.specs.Objects.{objects_of, parsed_of, index_version, object_fault, AreObjects, IsFirstFaulty}
-use Rattle.derivation.specs.Valid.{HasSpans, HasObjects, HasPlacements, HasIndex, AreRelocated, HasRelocations, HasSframe, IsValid}
+use Rattle.derivation.specs.Objects.{objects_of, parsed_of, object_fault, AreObjects, IsFirstFaulty}
+use Rattle.gdb_index_format.specs.Version.{index_version}
+use Rattle.gdb_tables.specs.Index.{AreRelocated}
+use Rattle.derivation.specs.Valid.{HasSpans, HasObjects, HasPlacements, HasIndex, HasRelocations, HasSframe, IsValid}
 use Rattle.derivation.specs.Cause.{IsSpanCause, IsObjectCause, IsPlacementCause, IsIndexCause, IsUnrelocated, IsRelocationCause, IsSframeCause, HasCause, in_spans, in_objects, in_placements, in_index, in_relocations, in_sframe, of_gdb_error, of_sframe_fault}
 
--- a refusal of one condition, or, where that holds, of what is asked behind it
+-- a refusal of one condition, or, where that holds, of what is asked after it
 Then : Type 0 → (DeriveError → Type 0) → (DeriveError → Type 0) → DeriveError → Type 0
 Then passes fails later e = fails e ⊎ (passes × later e)
 
@@ -103,7 +105,7 @@ one_faulty expected bytes p q k l left right =
       | inl same ↦ (let kind = same_kind expected bytes p q k l same left right in cc)
       | inr apart ↦ elim apart [
         | inl before ↦ absurd (not_before expected bytes p q k l left right before)
-        | inr behind ↦ absurd (not_before expected bytes q p l k right left behind)
+        | inr after ↦ absurd (not_before expected bytes q p l k right left after)
       ]
     ]
 
@@ -137,7 +139,7 @@ one_index input e f left right = left.2 ∙ ap of_gdb_error (one_size_cause inde
 not_both : {X : Type 0} (found : Option X) (x : X) → found ≡ None → found ≡ Some x → ⊥
 not_both found x none some = cc
 
-no_unrelocated : (parsed : List Parsed) → Excludes (AreRelocated parsed) (IsUnrelocated parsed)
+no_unrelocated : (parsed : List Parsed) → Excludes (AreRelocated class64 parsed) (IsUnrelocated parsed)
 unfolding Excludes
 no_unrelocated parsed e passes cause = not_both (first_relocation_fault class64 parsed cause.0) (cause.1, cause.2) (passes cause.0 cause.4) cause.5
 
@@ -147,8 +149,8 @@ same_elf p q k l same = ap (λ (found : Option (ℕ × ElfError)). errors.BadElf
 one_unrelocated : (parsed : List Parsed) → IsOne (IsUnrelocated parsed)
 unfolding IsOne
 one_unrelocated parsed e f left right =
-    let same : left.0 ≡ right.0 = objects_are_one_lem.one_list class64 (files.file_bytes parsed) left.0 right.0 left.4 right.4 in
-    let found : first_relocation_fault class64 parsed right.0 ≡ Some (left.1, left.2) = subst (λ (os : List Object). first_relocation_fault class64 parsed os ≡ Some (left.1, left.2)) same left.5 in
+    let same : left.0 ≡ right.0 = one_unit_lists class64 (files.file_bytes parsed) left.0 right.0 left.4 right.4 in
+    let found : first_relocation_fault class64 parsed right.0 ≡ Some (left.1, left.2) = subst (λ (uss : List (List CuBoundary)). first_relocation_fault class64 parsed uss ≡ Some (left.1, left.2)) same left.5 in
     left.3 ∙ same_elf left.1 right.1 left.2 right.2 (sym found ∙ right.5) ∙ sym right.3
 
 -- the SFrame section
@@ -160,24 +162,24 @@ one_sframe : (input : Input) → IsOne (IsSframeCause input)
 unfolding IsOne
 one_sframe input e f left right = left.2 ∙ ap of_sframe_fault (one_cause input.sframe input.ranges left.0 right.0 left.1 right.1 left.3 right.3) ∙ sym right.2
 
--- all of them, one behind another
-Behind4 : Input → DeriveError → Type 0
-Behind4 input = Then (HasRelocations input) (IsRelocationCause input) (IsSframeCause input)
+-- all of them, one after another
+After4 : Input → DeriveError → Type 0
+After4 input = Then (HasRelocations input) (IsRelocationCause input) (IsSframeCause input)
 
-Behind3 : Input → DeriveError → Type 0
-Behind3 input = Then (HasIndex input) (IsIndexCause input) (Behind4 input)
+After3 : Input → DeriveError → Type 0
+After3 input = Then (HasIndex input) (IsIndexCause input) (After4 input)
 
-Behind2 : Input → DeriveError → Type 0
-Behind2 input = Then (HasPlacements input) (IsPlacementCause input) (Behind3 input)
+After2 : Input → DeriveError → Type 0
+After2 input = Then (HasPlacements input) (IsPlacementCause input) (After3 input)
 
-Behind1 : Input → DeriveError → Type 0
-Behind1 input = Then (HasObjects input) (IsObjectCause input) (Behind2 input)
+After1 : Input → DeriveError → Type 0
+After1 input = Then (HasObjects input) (IsObjectCause input) (After2 input)
 
 Nested : Input → DeriveError → Type 0
-Nested input = Then (HasSpans input) (IsSpanCause input) (Behind1 input)
+Nested input = Then (HasSpans input) (IsSpanCause input) (After1 input)
 
 nested : (input : Input) (e : DeriveError) → HasCause input e → Nested input e
-unfolding Nested Behind1 Behind2 Behind3 Behind4 Then
+unfolding Nested After1 After2 After3 After4 Then
 nested input e (in_spans cause) = inl cause
 nested input e (in_objects a cause) = inr (a, inl cause)
 nested input e (in_placements a b cause) = inr (a, inr (b, inl cause))
@@ -186,21 +188,21 @@ nested input e (in_relocations a b c d cause) = inr (a, inr (b, inr (c, inr (d, 
 nested input e (in_sframe a b c d g cause) = inr (a, inr (b, inr (c, inr (d, inr (g, cause)))))
 
 one_nested : (input : Input) → IsOne (Nested input)
-unfolding Nested Behind1 Behind2 Behind3 Behind4
+unfolding Nested After1 After2 After3 After4
 one_nested input =
-    one_then (HasSpans input) (IsSpanCause input) (Behind1 input) (no_span_cause input) (one_span input)
-    (one_then (HasObjects input) (IsObjectCause input) (Behind2 input) (no_object_cause input) (one_object input)
-    (one_then (HasPlacements input) (IsPlacementCause input) (Behind3 input) (no_placement_cause input) (one_placement input)
-    (one_then (HasIndex input) (IsIndexCause input) (Behind4 input) (no_index_cause input) (one_index input)
+    one_then (HasSpans input) (IsSpanCause input) (After1 input) (no_span_cause input) (one_span input)
+    (one_then (HasObjects input) (IsObjectCause input) (After2 input) (no_object_cause input) (one_object input)
+    (one_then (HasPlacements input) (IsPlacementCause input) (After3 input) (no_placement_cause input) (one_placement input)
+    (one_then (HasIndex input) (IsIndexCause input) (After4 input) (no_index_cause input) (one_index input)
     (one_then (HasRelocations input) (IsRelocationCause input) (IsSframeCause input) (no_unrelocated (parsed_of input.buffer input.objects)) (one_unrelocated (parsed_of input.buffer input.objects)) (one_sframe input)))))
 
 none_nested : (input : Input) → IsValid input → (e : DeriveError) → Nested input e → ⊥
-unfolding Nested Behind1 Behind2 Behind3 Behind4 Excludes
+unfolding Nested After1 After2 After3 After4 Excludes
 none_nested input valid =
-    none_then (HasSpans input) (IsSpanCause input) (Behind1 input) (no_span_cause input) valid.spans
-    (none_then (HasObjects input) (IsObjectCause input) (Behind2 input) (no_object_cause input) valid.objects
-    (none_then (HasPlacements input) (IsPlacementCause input) (Behind3 input) (no_placement_cause input) valid.placements
-    (none_then (HasIndex input) (IsIndexCause input) (Behind4 input) (no_index_cause input) valid.index
+    none_then (HasSpans input) (IsSpanCause input) (After1 input) (no_span_cause input) valid.spans
+    (none_then (HasObjects input) (IsObjectCause input) (After2 input) (no_object_cause input) valid.objects
+    (none_then (HasPlacements input) (IsPlacementCause input) (After3 input) (no_placement_cause input) valid.placements
+    (none_then (HasIndex input) (IsIndexCause input) (After4 input) (no_index_cause input) valid.index
     (none_then (HasRelocations input) (IsRelocationCause input) (IsSframeCause input) (no_unrelocated (parsed_of input.buffer input.objects)) valid.relocations
     (λ e cause. no_sframe_cause input e valid.sframe cause)))))
 

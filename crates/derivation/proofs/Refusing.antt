@@ -1,9 +1,14 @@
--- An error of a lower crate is told, or memory was wanted.
+-- An error of a lower crate is that of the tables, or `NoMemory`.
 use Rattle.std.proofs.Common.{◌≡◌, ◌≢◌, ◌⊎◌, ℕ, List, refl, ◌∙◌, inl, inr}
 use Rattle.elf_format.specs.declared.index.Span.{Span}
 use Rattle.gdb_index_format.specs.declared.placement.Placement.{Placement}
 use Rattle.gdb_scan.specs.declared.error.GdbError.{GdbError}
 use Rattle.gdb_scan.specs.declared.error.GdbError.TheVariants as gdb
+use Rattle.elf_view.specs.Parsed.{Parsed}
+use Rattle.gdb_index_format.specs.declared.unit.CuBoundary.{CuBoundary}
+use Rattle.gdb_index_format.specs.Objects.{AreUnitsOf}
+use Rattle.gdb_tables.specs.Addresses.{first_relocation_fault, IsAddressCause}
+use Rattle.gdb_tables.specs.Files.{file_bytes}
 use Rattle.gdb_tables.specs.Sized.{IsSizeCause}
 use Rattle.elf_format.specs.Class.{class64}
 use Rattle.sframe_format.specs.declared.fault.SframeFault.{SframeFault}
@@ -11,8 +16,8 @@ use Rattle.sframe_format.specs.declared.fault.SframeFault.TheVariants as faults
 use Rattle.sframe_format.specs.Valid as frames
 use Rattle.derivation.specs.declared.error.DeriveError.{DeriveError}
 use Rattle.derivation.specs.declared.error.DeriveError.TheVariants as errors
-use Rattle.derivation.specs.Objects.{index_version}
-use Rattle.derivation.specs.Cause.{of_gdb_error, of_sframe_fault, IsUnsized, IsUnordered}
+use Rattle.gdb_index_format.specs.Version.{index_version}
+use Rattle.derivation.specs.Cause.{of_gdb_error, of_sframe_fault, IsUnsized, IsUnordered, IsUnrelocated}
 
 no_gdb_memory : (g : GdbError) → (g ≡ gdb.NoMemory) ⊎ (g ≢ gdb.NoMemory)
 no_gdb_memory (gdb.BadElf object kind) = inr (λ h. cc)
@@ -50,3 +55,12 @@ unordered sframe ranges g e told cause =
       | inl none ↦ inl (told ∙ sframe_memory_told g none)
       | inr some ↦ inr (g, some, told, cause)
     ]
+
+pub unrelocated : (parsed : List Parsed) (uss : List (List CuBoundary)) (g : GdbError) (e : DeriveError) → e ≡ of_gdb_error g → AreUnitsOf class64 (file_bytes parsed) uss → IsAddressCause (first_relocation_fault class64 parsed uss) g → (e ≡ errors.NoMemory) ⊎ IsUnrelocated parsed e
+unrelocated parsed uss (gdb.BadElf object kind) e told held cause = inr (uss, object, kind, told, held, cause)
+unrelocated parsed uss (gdb.CompressedSection object section) e told held cause = absurd cause
+unrelocated parsed uss (gdb.BadUnit object offset fault) e told held cause = absurd cause
+unrelocated parsed uss (gdb.BadPubnames object section) e told held cause = absurd cause
+unrelocated parsed uss (gdb.TooManyUnits count) e told held cause = absurd cause
+unrelocated parsed uss (gdb.IndexTooLarge size) e told held cause = absurd cause
+unrelocated parsed uss gdb.NoMemory e told held cause = inl told

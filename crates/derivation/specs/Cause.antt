@@ -1,4 +1,4 @@
--- Why input has no tables: each error by its cause.
+-- Why an input has no tables: each error by its cause.
 use Rattle.std.specs.Prelude.{◌≡◌, ◌≢◌, ℕ, List, not, length, position, Some}
 use Rattle.elf_format.specs.declared.error.ElfError.{ElfError}
 use Rattle.elf_format.specs.declared.index.Span.{Span}
@@ -6,8 +6,8 @@ use Rattle.elf_format.specs.Class.{class64}
 use Rattle.elf_format.specs.Span.{is_inside}
 use Rattle.elf_view.specs.Parsed.{Parsed}
 use Rattle.gdb_index_format.specs.declared.placement.Placement.{Placement}
-use Rattle.gdb_index_format.specs.Objects.{AreObjectsOf}
-use Rattle.gdb_index_format.specs.Published.{Object}
+use Rattle.gdb_index_format.specs.declared.unit.CuBoundary.{CuBoundary}
+use Rattle.gdb_index_format.specs.Objects.{AreUnitsOf}
 use Rattle.gdb_scan.specs.declared.error.GdbError.{GdbError}
 use Rattle.gdb_scan.specs.declared.error.GdbError.TheVariants as gdb
 use Rattle.gdb_tables.specs.Addresses.{first_relocation_fault}
@@ -20,23 +20,24 @@ use Rattle.sframe_format.specs.Valid as frames
 use Rattle.derivation.specs.declared.error.DeriveError.{DeriveError}
 use Rattle.derivation.specs.declared.error.DeriveError.TheVariants as errors
 use Rattle.derivation.specs.Input.{Input}
-use Rattle.derivation.specs.Objects.{objects_of, parsed_of, index_version, IsFirstFaulty}
+use Rattle.derivation.specs.Objects.{objects_of, parsed_of, IsFirstFaulty}
+use Rattle.gdb_index_format.specs.Version.{index_version}
 use Rattle.derivation.specs.Valid.{HasSpans, HasObjects, HasPlacements, HasIndex, HasRelocations}
 
--- the span of this place is the first that is reversed or ends beyond the buffer
+-- the span of this index is the first that is reversed or ends after the end of the buffer
 abbrev pub IsSpanCause : Input → DeriveError → Type 0
-IsSpanCause input e = (place : ℕ) × (e ≡ errors.BadSpan place) × (position (λ s. not (is_inside (length input.buffer) s)) input.objects ≡ Some place)
+IsSpanCause input e = (index : ℕ) × (e ≡ errors.BadSpan index) × (position (λ s. not (is_inside (length input.buffer) s)) input.objects ≡ Some index)
 
--- the object of this place is the first with a fault, and this is its fault
+-- the object of this index is the first with a fault, and this is its fault
 abbrev pub IsObjectCause : Input → DeriveError → Type 0
-IsObjectCause input e = (place : ℕ) × (kind : ElfError) × (e ≡ errors.BadElf place kind) × IsFirstFaulty class64 input.machine (objects_of input.buffer input.objects) place kind
+IsObjectCause input e = (index : ℕ) × (kind : ElfError) × (e ≡ errors.BadElf index kind) × IsFirstFaulty class64 input.machine (objects_of input.buffer input.objects) index kind
 
--- the placement of this place is the first that is not behind the one before it, names an object or a section that is not
--- there, or ends beyond 64 bits
+-- the placement of this index is the first that does not follow the one before it by object and section, names an object or a
+-- section that does not exist, or has an end that does not fit 64 bits
 abbrev pub IsPlacementCause : Input → DeriveError → Type 0
-IsPlacementCause input e = (place : ℕ) × (e ≡ errors.BadPlacement place) × (misplaced class64 (objects_of input.buffer input.objects) input.placements ≡ Some place)
+IsPlacementCause input e = (index : ℕ) × (e ≡ errors.BadPlacement index) × (misplaced class64 (objects_of input.buffer input.objects) input.placements ≡ Some index)
 
--- an error of the index, as it is told
+-- the error of the index, as an error of the tables
 abbrev pub of_gdb_error : GdbError → DeriveError
 of_gdb_error (gdb.BadElf object kind) = errors.BadElf object kind
 of_gdb_error (gdb.CompressedSection object section) = errors.CompressedSection object section
@@ -53,15 +54,15 @@ IsUnsized bytes placements e = (g : GdbError) × (g ≢ gdb.NoMemory) × (e ≡ 
 abbrev pub IsIndexCause : Input → DeriveError → Type 0
 IsIndexCause input e = IsUnsized (objects_of input.buffer input.objects) input.placements e
 
--- the object of this place is the first with two units or more for which the relocations of its units are at fault
+-- the object of this index is the first with two units or more whose relocations have a fault
 abbrev pub IsUnrelocated : List Parsed → DeriveError → Type 0
 IsUnrelocated parsed e =
-    (os : List Object) × (place : ℕ) × (kind : ElfError) × (e ≡ errors.BadElf place kind) × AreObjectsOf class64 (files.file_bytes parsed) os × (first_relocation_fault class64 parsed os ≡ Some (place, kind))
+    (uss : List (List CuBoundary)) × (index : ℕ) × (kind : ElfError) × (e ≡ errors.BadElf index kind) × AreUnitsOf class64 (files.file_bytes parsed) uss × (first_relocation_fault class64 parsed uss ≡ Some (index, kind))
 
 abbrev pub IsRelocationCause : Input → DeriveError → Type 0
 IsRelocationCause input e = IsUnrelocated (parsed_of input.buffer input.objects) e
 
--- an error of the SFrame section, as it is told
+-- the error of the SFrame section, as an error of the tables
 abbrev pub of_sframe_fault : SframeFault → DeriveError
 of_sframe_fault (faults.BadRange place) = errors.BadRange place
 of_sframe_fault (faults.BadMagic value offset) = errors.BadMagicBytes value offset
@@ -77,7 +78,7 @@ IsUnordered sframe ranges e = (g : SframeFault) × (g ≢ faults.NoMemory) × (e
 abbrev pub IsSframeCause : Input → DeriveError → Type 0
 IsSframeCause input e = IsUnordered input.sframe input.ranges e
 
--- The cause of an error: that of the first condition, in this order, which does not hold. Want of memory has none.
+-- The cause of an error: that of the first condition, in this order, which does not hold. `NoMemory` has none.
 pub data HasCause (input : Input) (e : DeriveError) : Type 0 where
   in_spans : IsSpanCause input e → HasCause input e
   in_objects : HasSpans input → IsObjectCause input e → HasCause input e

@@ -2,5 +2,4 @@ pub mod Input
 pub mod Objects
 pub mod Valid
 pub mod Cause
-pub mod Derived
 pub mod Laws

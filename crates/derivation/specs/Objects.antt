@@ -1,4 +1,4 @@
--- The objects of an input: their bytes, and what is wrong with one of them before its tables are read.
+-- The objects of an input: their bytes, and which file an object has to be.
 use Rattle.std.specs.Prelude.{◌≡◌, ℕ, false, not, ◌==◌, if◌then◌else◌, List, map, take, slice_get, Option, Some, None}
 use Rattle.std.specs.List.{All}
 use Rattle.std.specs.Option.{option_or}
@@ -26,18 +26,15 @@ parsed_at buffer span = record { bytes = span_bytes buffer span; is_dynamic = fa
 abbrev pub parsed_of : List ℕ → List Span → List Parsed
 parsed_of buffer spans = map (parsed_at buffer) spans
 
--- the version of the index that is written
-abbrev pub index_version : ℕ
-index_version = 9
-
--- what is wrong with a well-formed file as an object for a machine
+-- the fault of a well-formed file as an object for a machine
 abbrev pub kind_fault : Class → Architecture → List ℕ → Option ElfError
 kind_fault c expected file =
     if not (get (e_type c) (file_header c file) == et_rel) then Some Header
     else if not (get (e_machine c) (file_header c file) == machine_number expected) then Some Machine
     else None
 
--- what is wrong with an object: the first rule of files that it breaks, or that it is not relocatable, or that it is for another machine
+-- the fault of an object: the first rule of files that it breaks, or that it is not relocatable, or that it is for
+-- another machine
 unfoldable pub object_fault : Class → Architecture → List ℕ → Option ElfError
 object_fault c expected file = option_or (fault c false file) (kind_fault c expected file)
 
@@ -45,9 +42,9 @@ object_fault c expected file = option_or (fault c false file) (kind_fault c expe
 abbrev pub AreObjects : Class → Architecture → List (List ℕ) → Type 0
 AreObjects c expected files = All (λ file. object_fault c expected file ≡ None) files
 
--- the first object with a fault, by its place, and its fault
-pub record IsFirstFaulty (c : Class) (expected : Architecture) (files : List (List ℕ)) (place : ℕ) (kind : ElfError) : Type 0 where
+-- the first object with a fault, by its index, and its fault
+pub record IsFirstFaulty (c : Class) (expected : Architecture) (files : List (List ℕ)) (index : ℕ) (kind : ElfError) : Type 0 where
   pub file : List ℕ
-  pub there : slice_get files place ≡ Some file
-  pub before : AreObjects c expected (take place files)
+  pub there : slice_get files index ≡ Some file
+  pub before : AreObjects c expected (take index files)
   pub fault_is : object_fault c expected file ≡ Some kind

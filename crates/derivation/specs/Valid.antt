@@ -1,16 +1,14 @@
 -- Which input has tables.
-use Rattle.std.specs.Prelude.{◌≡◌, List, length, None}
+use Rattle.std.specs.Prelude.{length}
 use Rattle.elf_format.specs.Class.{class64}
 use Rattle.elf_format.specs.Span.{AreInside}
-use Rattle.elf_view.specs.Parsed.{Parsed}
-use Rattle.gdb_index_format.specs.Objects.{AreObjectsOf}
-use Rattle.gdb_index_format.specs.Published.{Object}
-use Rattle.gdb_tables.specs.Addresses.{first_relocation_fault}
 use Rattle.gdb_tables.specs.Files as files
+use Rattle.gdb_tables.specs.Index.{AreRelocated}
 use Rattle.gdb_tables.specs.Sized.{IsIndexable}
 use Rattle.sframe_format.specs.Valid as frames
 use Rattle.derivation.specs.Input.{Input}
-use Rattle.derivation.specs.Objects.{objects_of, parsed_of, index_version, AreObjects}
+use Rattle.derivation.specs.Objects.{objects_of, parsed_of, AreObjects}
+use Rattle.gdb_index_format.specs.Version.{index_version}
 
 -- the spans of the objects lie in the buffer
 abbrev pub HasSpans : Input → Type 0
@@ -25,20 +23,17 @@ HasObjects input = AreObjects class64 input.machine (objects_of input.buffer inp
 abbrev pub HasPlacements : Input → Type 0
 HasPlacements input = files.ArePlacedIn class64 (objects_of input.buffer input.objects) input.placements
 
--- In each object the first `.debug_info` and the sections of names are not compressed, their bytes are there, and they hold
--- units and, where there is a unit, sets of names; there are at most 2^24 units; and the index has fewer than 2^32 bytes.
+-- In each object the first `.debug_info` and all `.debug_gnu_pubnames` and `.debug_gnu_pubtypes` are not compressed, their
+-- bytes are in the file, and they hold compilation units (CUs) and, where there is a CU, sets; there are at most 2^24 units; and the index has fewer than 2^32 bytes.
 abbrev pub HasIndex : Input → Type 0
 HasIndex input = IsIndexable index_version class64 (objects_of input.buffer input.objects) input.placements
 
--- in each of these objects that has two units or more, the relocations of its units are read
-abbrev pub AreRelocated : List Parsed → Type 0
-AreRelocated parsed = (os : List Object) → AreObjectsOf class64 (files.file_bytes parsed) os → first_relocation_fault class64 parsed os ≡ None
-
+-- in each object that has two units or more, the relocations of its units are read
 abbrev pub HasRelocations : Input → Type 0
-HasRelocations input = AreRelocated (parsed_of input.buffer input.objects)
+HasRelocations input = AreRelocated class64 (parsed_of input.buffer input.objects)
 
--- The ranges lie in the SFrame bytes, which are fewer than 2^32; their contributions are sound; and the merged section has
--- room, and fits the numbers of its fields.
+-- The ranges lie in the SFrame bytes, which are fewer than 2^32; their contributions are well formed; and the merged
+-- section has room, and its numbers fit their fields.
 abbrev pub HasSframe : Input → Type 0
 HasSframe input = frames.IsSortable input.sframe input.ranges
 

@@ -1,10 +1,10 @@
-//! From objects to tables, in phases: an error of a phase comes only where the earlier phases found nothing.
+//! Derives both tables from objects, in phases: an error of a phase comes only where the earlier phases succeed.
 
 ghost use Rattle.std.specs.Prelude.{◌≡◌, ◌⊎◌, MatchResult, ◌<◌, ◌^◌, length, OnOk, IfOk, IfErr};
 ghost use Rattle.elf_format.specs.Class.{class64};
 ghost use Rattle.sframe_format.specs.Sorted.{SortOf};
 ghost use Rattle.derivation.specs.Cause.{HasCause};
-ghost use Rattle.derivation.specs.Derived.{IsIndexOf};
+ghost use Rattle.gdb_tables.specs.Index.{IsIndexOf};
 ghost use Rattle.derivation.specs.Input.{input_of};
 ghost use Rattle.derivation.specs.Objects.{parsed_of};
 ghost use Rattle.derivation.specs.Valid.{IsValid};
@@ -12,32 +12,31 @@ ghost use Rattle.derivation.specs.declared.error.DeriveError.{DeriveError as Der
 ghost use Rattle.derivation.specs.declared.error.DeriveError.TheVariants.{NoMemory};
 
 use crate::DeriveError;
-use crate::index::index_tables;
 use crate::object::parse_objects;
 use crate::order::order_sframe;
 use elf_format::{Architecture, Span};
 use elf_words::first_outside;
 use gdb_index_format::{CuBoundary, NameWords, Placement};
-use gdb_tables::first_misplaced;
+use gdb_tables::{build_index, first_misplaced};
 use sframe_format::SframeOutcome;
 use std::alloc::Global;
 
-/// The tables that were derived.
+/// The derived tables.
 #[derive(Debug, Drop)]
 pub struct Derived<'a> {
-    /// The units of all objects in input order: each offset, in bytes, is the sum of the lengths before it.
+    /// The compilation units (CUs) of all objects in input order. Each offset, in bytes, is the sum of the lengths before it.
     pub units: Vec<CuBoundary>,
-    /// The published names in ascending byte order, each with its words.
+    /// The published names in ascending byte order, each with its CU vector.
     pub names: Vec<NameWords<'a>>,
-    /// The bytes of the `.gdb_index` section: none without a unit.
+    /// The bytes of `.gdb_index`: none without a CU.
     pub index: Vec<u8>,
-    /// The bytes of the SFrame section, ordered by address.
+    /// The bytes of the SFrame section, its functions ordered by address.
     pub sframe: Vec<u8>,
-    /// What ordering the SFrame section came to.
+    /// The outcome of ordering the SFrame section.
     pub outcome: SframeOutcome,
 }
 
-/// The tables of an input, without a look at what refuses it for another cause.
+/// Derives the tables, and returns the first error.
 fn derive_phases<'a>(
     alloc: Global,
     expected: Architecture,
@@ -55,20 +54,17 @@ fn derive_phases<'a>(
     ensures index { IfOk result (λ d. IsIndexOf class64 (parsed_of buffer.now objects.now) placements.now d.units.items d.names.items d.index.items) }
     ensures sframe { IfOk result (λ d. SortOf sframe.now ranges.now d.sframe.items d.outcome) }
 {
-    if let Some(place) = first_outside(buffer.len(), objects) {
-        return Err(DeriveError::BadSpan(place));
+    if let Some(index) = first_outside(buffer.len(), objects) {
+        return Err(DeriveError::BadSpan(index));
     }
     let files = match parse_objects(alloc, expected, buffer, objects) {
         Ok(files) => files,
         Err(error) => return Err(error),
     };
-    if let Some(place) = first_misplaced(&files, placements) {
-        return Err(DeriveError::BadPlacement(place));
+    if let Some(index) = first_misplaced(&files, placements) {
+        return Err(DeriveError::BadPlacement(index));
     }
-    let tables = match index_tables(alloc, &files, placements) {
-        Ok(tables) => tables,
-        Err(error) => return Err(error),
-    };
+    let tables = build_index(alloc, &files, placements)?;
     match order_sframe(alloc, sframe, ranges, base) {
         Ok((sframe, outcome)) => Ok(Derived {
             units: tables.units,
@@ -81,19 +77,20 @@ fn derive_phases<'a>(
     }
 }
 
-/// The tables of objects, which are spans of `buffer`, for a machine: their index for debuggers (GDB manual,
+/// Derives the tables of objects, which are spans of `buffer`, for a machine: their index for debuggers (GDB manual,
 /// "Index Section Format"), and the given SFrame section ordered by address (SFrame 2), whose first byte is loaded
-/// at `base`. The placements say where sections of the objects were put, the ranges which bytes of the SFrame
-/// section are contributions.
+/// at `base`. The placements are the addresses of sections of the objects, the ranges the contributions of the SFrame
+/// section. There is no assumption on the bytes.
 ///
-/// Input has tables exactly where each span lies in the buffer; each object is a relocatable file of the machine;
-/// the placements ascend by object and section, name sections that are there, and end within 64 bits; the sections
-/// that the index is made from are not compressed and hold units and sets of names; there are at most 2^24 units; the
-/// index has fewer than 2^32 bytes; the relocations of the units of an object with two units or more are read; and the
-/// ranges and contributions of the SFrame section are sound, have room and fit their fields. Each error but `NoMemory`
-/// comes exactly where its cause is the first, in this order; no table is given then. `NoMemory` may come for any input.
+/// Input has tables exactly where each span lies in the buffer; each object is a well-formed relocatable file of the
+/// machine; the placements ascend by object and section, name sections that exist, and have ends that fit 64 bits; the
+/// sections that the index is made from are not compressed and hold compilation units (CUs) and sets of names; there are
+/// at most 2^24 CUs; the index has fewer than 2^32 bytes; the relocations of an object with two CUs or more are read; and
+/// the ranges and contributions of the SFrame section are well formed, have room and fit their fields. Each error but
+/// `NoMemory` comes exactly where its cause is the first, in this order; no table is returned then. `NoMemory` may come
+/// for any input.
 ///
-/// The buffer has fewer than 2^39 bytes, and there are fewer than 2^24 objects. Spans may overlap.
+/// Requires a buffer of fewer than 2^39 bytes and fewer than 2^24 objects. Spans may overlap.
 pub fn derive_tables<'a>(
     alloc: Global,
     expected: Architecture,

@@ -1,6 +1,6 @@
-//! Laws of the causes and of the tables, each the contract of a function that does nothing.
+//! Laws of the causes, each the contract of a function that does nothing.
 
-ghost use Rattle.derivation.specs.Laws.{HasOneCause, ValidHasNoCause, InsideIsNoBadSpan, HasOneIndex};
+ghost use Rattle.derivation.specs.Laws.{HasOneCause, ValidHasNoCause, InsideIsNoBadSpan};
 
 /// An input is refused for one cause.
 pub fn refused_for_one_cause()
@@ -15,9 +15,4 @@ pub fn valid_has_no_cause()
 /// Spans that lie in the buffer are never the cause of `BadSpan`.
 pub fn inside_is_no_bad_span()
     ensures { InsideIsNoBadSpan }
-{}
-
-/// Objects and placements have one index, byte for byte, and one list of names with their words.
-pub fn indexes_are_one()
-    ensures { HasOneIndex }
 {}

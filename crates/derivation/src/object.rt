@@ -1,4 +1,4 @@
-//! The objects of the input, each a relocatable file of the machine (gABI, ELF Header).
+//! Parses the objects of the input, each a relocatable file of the machine (gABI, ELF Header).
 
 ghost use Rattle.std.specs.Prelude.{◌≡◌, ◌⊎◌, ℕ, false, List, length, IfOk, IfErr, OnOk};
 ghost use Rattle.std.specs.Result.{result_err};
@@ -12,14 +12,11 @@ use crate::DeriveError;
 use elf_format::{Architecture, ElfError, Span};
 use elf_records64::{Class64, FileHeader64};
 use elf_view::File;
-use elf_words::{FileHeaderFields, Record};
+use elf_words::{ET_REL, FileHeaderFields, Record};
 use std::alloc::Global;
 
-/// The type of a relocatable file (gABI, `e_type`).
-const ET_REL: u16 = 1;
-
-/// The object that the bytes make. It is refused for the first rule of files that the bytes break, as
-/// `Header` where it is not relocatable, and as `Machine` where it is for another machine.
+/// Parses the bytes of an object. The error is the first rule of files that the bytes break, then `Header` where the
+/// object is not relocatable, then `Machine` where it is for another machine.
 #[tactic(auto, unfolding(crate::specs::Objects::object_fault, elf_format::specs::Fault::fault, elf_format::specs::Fault::has_header))]
 fn parse_object(bytes: &[u8], expected: Architecture) -> Result<File<'_, Class64>, ElfError>
     ensures fault { result_err result ≡ object_fault class64 expected bytes.now }
@@ -36,7 +33,7 @@ fn parse_object(bytes: &[u8], expected: Architecture) -> Result<File<'_, Class64
     Ok(file)
 }
 
-/// The object that a span of the buffer is.
+/// Parses the object at a span of the buffer.
 fn parse_span<'a>(
     buffer: &'a [u8],
     span: Span,
@@ -52,7 +49,7 @@ fn parse_span<'a>(
     }
 }
 
-/// The objects that spans of the buffer are, in their order. Refused for the first that is no object of the machine.
+/// Parses the objects at spans of the buffer, in their order. The error is that of the first object with a fault.
 pub(crate) fn parse_objects<'a>(
     alloc: Global,
     expected: Architecture,
@@ -62,13 +59,13 @@ pub(crate) fn parse_objects<'a>(
     requires { AreInside (length buffer.now) spans.now }
     ensures files { IfOk result (λ files. files.items ≡ parsed_of buffer.now spans.now) }
     ensures sound { OnOk result (AreObjects class64 expected (objects_of buffer.now spans.now)) }
-    ensures cause { IfErr result (λ e. (e ≡ NoMemory) ⊎ (place : ℕ) × (kind : ElfError_spec) × (e ≡ BadElf place kind) × IsFirstFaulty class64 expected (objects_of buffer.now spans.now) place kind) }
+    ensures cause { IfErr result (λ e. (e ≡ NoMemory) ⊎ (index : ℕ) × (kind : ElfError_spec) × (e ≡ BadElf index kind) × IsFirstFaulty class64 expected (objects_of buffer.now spans.now) index kind) }
 {
     let mut files = Vec::new(alloc);
-    for (place, span) in spans.iter().enumerate() {
+    for (index, span) in spans.iter().enumerate() {
         match parse_span(buffer, *span, expected) {
             Ok(file) => files.push(file)?,
-            Err(kind) => return Err(DeriveError::BadElf(place, kind)),
+            Err(kind) => return Err(DeriveError::BadElf(index, kind)),
         }
     }
     Ok(files)

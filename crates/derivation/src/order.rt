@@ -8,13 +8,12 @@ ghost use Rattle.derivation.specs.declared.error.DeriveError.TheVariants.{NoMemo
 ghost use Rattle.derivation.specs.Cause.{IsUnordered};
 
 use crate::DeriveError;
-use crate::error::of_sframe_fault;
 use elf_format::Span;
 use sframe_format::SframeOutcome;
 use sframe_order::sort_sframe_section;
 use std::alloc::Global;
 
-/// The bytes of the section after ordering, and what ordering came to. The bytes that are given stay as they are.
+/// Returns the bytes of the section after ordering, and the outcome. The given bytes stay as they are.
 pub(crate) fn order_sframe(
     alloc: Global,
     sframe: &[u8],
@@ -27,8 +26,6 @@ pub(crate) fn order_sframe(
 {
     let mut bytes = Vec::with_capacity(alloc, sframe.len())?;
     bytes.extend_from_slice(sframe)?;
-    match sort_sframe_section(alloc, &mut bytes, base, ranges) {
-        Ok(outcome) => Ok((bytes, outcome)),
-        Err(fault) => Err(of_sframe_fault(fault)),
-    }
+    let outcome = sort_sframe_section(alloc, &mut bytes, base, ranges)?;
+    Ok((bytes, outcome))
 }

@@ -8,7 +8,7 @@ use Rattle.sframe_format.specs.declared.fault.SframeOutcome.{SframeOutcome}
 use Rattle.sframe_format.specs.Sorted.{SortOf}
 use Rattle.elf_format.specs.Class.{class64}
 use Rattle.elf_format.specs.Span.{AreInside}
-use Rattle.derivation.specs.Derived.{IsIndexOf}
+use Rattle.gdb_tables.specs.Index.{IsIndexOf}
 use Rattle.derivation.specs.Input as derivation
 use Rattle.derivation.specs.Objects.{objects_of, parsed_of}
 use Rattle.derivation.specs.Valid.{IsValid}

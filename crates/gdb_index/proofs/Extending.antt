@@ -6,7 +6,7 @@ use Rattle.std.proofs.lemmas.Grind.{flat_map-append}
 use Rattle.std.proofs.lemmas.List.Sums.{sum_by_more, sum_by-take-le}
 use Rattle.gdb_index_format.specs.Named.{Named}
 use Rattle.gdb_index.specs.Pool.{vector_len, name_len, vectors_len, names_len}
-use Rattle.gdb_index.specs.Writes.{Extends}
+use Rattle.gdb_index.specs.steps.Writes.{Extends}
 
 pub Extends-none : (b : List ℕ) (at : ℕ) → Extends b b at []
 Extends-none b at = record { same_len = refl; front = ap (λ n. take n b) (omega arith) ∙ sym (append-nil (take at b)) }

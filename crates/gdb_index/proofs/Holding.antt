@@ -1,4 +1,4 @@
--- What an index holds, said place by place, and what the probe gives of it, name by name.
+-- What an index holds, said slot by slot, and what the probe gives of it, name by name.
 use Rattle.std.proofs.Common.{◌≡◌, ℕ, ◌+◌, ◌*◌, ◌<◌, ◌≤◌, List, length, get_or, Some, None, Ok}
 use Rattle.std.specs.Int.{IsPowerOfTwo}
 use Rattle.elf_format.specs.Bytes.{u32_at, string_at}
@@ -6,7 +6,7 @@ use Rattle.gdb_index_format.specs.Named.{Named}
 use Rattle.gdb_index_format.specs.Version.{header_len}
 use Rattle.gdb_index_format.specs.Probe.{index_fault, table_at, pool_at, slot_count, vector_at, probe}
 use Rattle.gdb_index.specs.Table.{Slot, free_slot}
-use Rattle.gdb_index.specs.Pool.{vector_place, name_place}
+use Rattle.gdb_index.specs.Pool.{vector_offset, name_offset}
 use Rattle.gdb_index.specs.Filled.{IsFilled}
 
 -- the slot's numbers, as they are read
@@ -23,18 +23,18 @@ pub record HoldsNames (b : List ℕ) (ns : List Named) : Type 0 where
   pub table : List Slot
   pub filled : IsFilled table (slot_count b) ns
   pub slots : (s : ℕ) → s < slot_count b → SlotStands b s (get_or table s free_slot)
-  pub names : (i : ℕ) (d : Named) → i < length ns → string_at b (pool_at b + name_place ns i) ≡ Some (get_or ns i d).name
-  pub vectors : (i : ℕ) (d : Named) → i < length ns → vector_at b (pool_at b + vector_place ns i) ≡ Ok (Some (get_or ns i d).words)
+  pub names : (i : ℕ) (d : Named) → i < length ns → string_at b (pool_at b + name_offset ns i) ≡ Some (get_or ns i d).name
+  pub vectors : (i : ℕ) (d : Named) → i < length ns → vector_at b (pool_at b + vector_offset ns i) ≡ Ok (Some (get_or ns i d).words)
 
--- The probe finds name i, with its words, within i + 1 looks.
+-- The probe finds name i, with its words, within i + 1 steps.
 pub record Finds (b : List ℕ) (ns : List Named) (i : ℕ) (d : Named) : Type 0 where
   pub answer : (probe b (get_or ns i d).name).answer ≡ Ok (Some (get_or ns i d).words)
-  pub looks : (probe b (get_or ns i d).name).looks ≤ i + 1
+  pub steps : (probe b (get_or ns i d).name).steps ≤ i + 1
 
--- It finds nothing under any other name, within one look more than there are names.
+-- It finds nothing under any other name, within one step more than there are names.
 pub record FindsNothing (b : List ℕ) (ns : List Named) (name : List ℕ) : Type 0 where
   pub answer : (probe b name).answer ≡ Ok None
-  pub looks : (probe b name).looks ≤ length ns + 1
+  pub steps : (probe b name).steps ≤ length ns + 1
 
 -- a name is none of a list
 abbrev pub IsNone : List Named → List ℕ → Type 0

@@ -11,12 +11,12 @@ use Rattle.gdb_index_format.specs.Named.{Named}
 use Rattle.gdb_index_format.specs.Version.{is_known}
 use Rattle.gdb_index_format.specs.Units.{index_units}
 use Rattle.gdb_index_format.specs.Slots.{IsSlotCount}
-use Rattle.gdb_index_format.specs.Probe.{Probed, probe_from, index_fault, table_at, pool_at, slot_count, look_at, probe, vector_at}
+use Rattle.gdb_index_format.specs.Probe.{Probed, probe_from, index_fault, table_at, pool_at, slot_count, step_at, probe, vector_at}
 use Rattle.gdb_index.specs.Scan.{Scan, IsWellFormedScan}
 use Rattle.gdb_index.specs.Table.{Slot, free_slot, table_bytes}
-use Rattle.gdb_index.specs.Pool.{vectors_len, names_len, vector_place, name_place}
+use Rattle.gdb_index.specs.Pool.{vectors_len, names_len, vector_offset, name_offset}
 use Rattle.gdb_index.specs.Filled.{IsFilled}
-use Rattle.gdb_index.specs.Layout.{u32s_bytes, unit_bytes, address_bytes, vector_bytes, name_bytes, AreUnits, addresses_place, table_place, shortcuts_place, pool_place, header, IsLayoutOf}
+use Rattle.gdb_index.specs.Layout.{u32s_bytes, unit_bytes, address_bytes, vector_bytes, name_bytes, AreUnits, addresses_offset, table_offset, shortcuts_offset, pool_offset, header, IsLayoutOf}
 use Rattle.gdb_index.specs.Answers.{AnswersFor}
 use Rattle.gdb_index.proofs.Standing.{StandsAt, StandsAt-left, StandsAt-right, StandsAt-within, StandsAt-item, u32_at-words, vector_at-stands, string_at-stands}
 use Rattle.gdb_index.proofs.SlotLists.{length-table, slot_stands}
@@ -33,9 +33,9 @@ use Rattle.gdb_index.proofs.Answering.{answers_every}
 record Parts (b : List ℕ) (s : Scan) (addresses : List AddressEntry) (slots : ℕ) (table : List Slot) : Type 0 where
   head : StandsAt b 0 (u32s_bytes (header 9 (length s.units) (length addresses) slots))
   units : StandsAt b 28 (flat_map unit_bytes s.units)
-  slots_stand : StandsAt b (table_place 9 (length s.units) (length addresses)) (table_bytes table)
-  vectors : StandsAt b (pool_place 9 (length s.units) (length addresses) slots) (flat_map vector_bytes s.names)
-  names : StandsAt b (pool_place 9 (length s.units) (length addresses) slots + vectors_len s.names) (flat_map name_bytes s.names)
+  slots_stand : StandsAt b (table_offset 9 (length s.units) (length addresses)) (table_bytes table)
+  vectors : StandsAt b (pool_offset 9 (length s.units) (length addresses) slots) (flat_map vector_bytes s.names)
+  names : StandsAt b (pool_offset 9 (length s.units) (length addresses) slots + vectors_len s.names) (flat_map name_bytes s.names)
 
 parts_of : (b : List ℕ) (s : Scan) (xs : List AddressEntry) (i : IsLayoutOf 9 s xs b) → Parts b s xs i.slots i.table
 parts_of b s xs i =
@@ -51,7 +51,7 @@ parts_of b s xs i =
     let lu = length-units s.units in
     let la = length-addresses xs in
     let lv = length-vectors s.names in
-    let whole : StandsAt b 0 (h ++ u ++ a ++ t ++ z ++ v ++ n ++ r) = record { front = []; back = []; place = refl; parts = i.bytes_are ∙ sym (append-nil _) } in
+    let whole : StandsAt b 0 (h ++ u ++ a ++ t ++ z ++ v ++ n ++ r) = record { front = []; back = []; offset = refl; parts = i.bytes_are ∙ sym (append-nil _) } in
     let s7 : StandsAt b 0 (h ++ u ++ a ++ t ++ z ++ v ++ n) = StandsAt-left b 0 (h ++ u ++ a ++ t ++ z ++ v ++ n) r whole in
     let s6 : StandsAt b 0 (h ++ u ++ a ++ t ++ z ++ v) = StandsAt-left b 0 (h ++ u ++ a ++ t ++ z ++ v) n s7 in
     let s5 : StandsAt b 0 (h ++ u ++ a ++ t ++ z) = StandsAt-left b 0 (h ++ u ++ a ++ t ++ z) v s6 in
@@ -79,17 +79,17 @@ header_word : (b : List ℕ) (s : Scan) (xs : List AddressEntry) (slots : ℕ) (
 header_word b s xs slots table p k v l is fits =
     u32_at-words b 0 (header 9 (length s.units) (length xs) slots) k 0 l (omega (arith, is)) p.head ∙ is
 
-header_is : (b : List ℕ) (s : Scan) (xs : List AddressEntry) (slots : ℕ) (table : List Slot) → length b < 2 ^ 32 → Parts b s xs slots table → IsHeader b 28 (addresses_place 9 (length s.units)) (addresses_place 9 (length s.units)) (table_place 9 (length s.units) (length xs)) (shortcuts_place 9 (length s.units) (length xs) slots) (pool_place 9 (length s.units) (length xs) slots)
+header_is : (b : List ℕ) (s : Scan) (xs : List AddressEntry) (slots : ℕ) (table : List Slot) → length b < 2 ^ 32 → Parts b s xs slots table → IsHeader b 28 (addresses_offset 9 (length s.units)) (addresses_offset 9 (length s.units)) (table_offset 9 (length s.units) (length xs)) (shortcuts_offset 9 (length s.units) (length xs) slots) (pool_offset 9 (length s.units) (length xs) slots)
 header_is b s xs slots table small p =
-    let ends : pool_place 9 (length s.units) (length xs) slots ≤ length b = omega (arith, StandsAt-within b (pool_place 9 (length s.units) (length xs) slots) (flat_map vector_bytes s.names) p.vectors) in
+    let ends : pool_offset 9 (length s.units) (length xs) slots ≤ length b = omega (arith, StandsAt-within b (pool_offset 9 (length s.units) (length xs) slots) (flat_map vector_bytes s.names) p.vectors) in
     record {
       version = header_word b s xs slots table p 0 9 (omega arith) refl (omega arith);
       o1 = header_word b s xs slots table p 1 28 (omega arith) refl (omega arith);
-      o2 = header_word b s xs slots table p 2 (addresses_place 9 (length s.units)) (omega arith) refl (omega arith);
-      o3 = header_word b s xs slots table p 3 (addresses_place 9 (length s.units)) (omega arith) refl (omega arith);
-      o4 = header_word b s xs slots table p 4 (table_place 9 (length s.units) (length xs)) (omega arith) refl (omega arith);
-      o5 = header_word b s xs slots table p 5 (shortcuts_place 9 (length s.units) (length xs) slots) (omega arith) refl (omega arith);
-      o6 = header_word b s xs slots table p 6 (pool_place 9 (length s.units) (length xs) slots) (omega arith) refl (omega arith);
+      o2 = header_word b s xs slots table p 2 (addresses_offset 9 (length s.units)) (omega arith) refl (omega arith);
+      o3 = header_word b s xs slots table p 3 (addresses_offset 9 (length s.units)) (omega arith) refl (omega arith);
+      o4 = header_word b s xs slots table p 4 (table_offset 9 (length s.units) (length xs)) (omega arith) refl (omega arith);
+      o5 = header_word b s xs slots table p 5 (shortcuts_offset 9 (length s.units) (length xs) slots) (omega arith) refl (omega arith);
+      o6 = header_word b s xs slots table p 6 (pool_offset 9 (length s.units) (length xs) slots) (omega arith) refl (omega arith);
       begins = omega arith;
       first = omega arith;
       second = omega arith;
@@ -117,7 +117,7 @@ count_of_none (suc n) slots c e = absurd (omega arith)
 
 -- an index is sound, and its table has its slots
 record Reads (b : List ℕ) (s : Scan) (xs : List AddressEntry) (slots : ℕ) : Type 0 where
-  is : IsHeader b 28 (addresses_place 9 (length s.units)) (addresses_place 9 (length s.units)) (table_place 9 (length s.units) (length xs)) (shortcuts_place 9 (length s.units) (length xs) slots) (pool_place 9 (length s.units) (length xs) slots)
+  is : IsHeader b 28 (addresses_offset 9 (length s.units)) (addresses_offset 9 (length s.units)) (table_offset 9 (length s.units) (length xs)) (shortcuts_offset 9 (length s.units) (length xs) slots) (pool_offset 9 (length s.units) (length xs) slots)
   long : 28 ≤ length b
   sound : index_fault b ≡ None
   count : slot_count b ≡ slots
@@ -129,7 +129,7 @@ reads b s xs small i =
     record {
       is = h;
       long = omega (arith, h.begins, h.first, h.second, h.third, h.fourth, h.fifth, h.ends);
-      sound = is_sound b 28 (addresses_place 9 (length s.units)) (addresses_place 9 (length s.units)) (table_place 9 (length s.units) (length xs)) (shortcuts_place 9 (length s.units) (length xs) i.slots) (pool_place 9 (length s.units) (length xs) i.slots) i.slots h refl (power_or_none (length s.names) i.slots i.counted);
+      sound = is_sound b 28 (addresses_offset 9 (length s.units)) (addresses_offset 9 (length s.units)) (table_offset 9 (length s.units) (length xs)) (shortcuts_offset 9 (length s.units) (length xs) i.slots) (pool_offset 9 (length s.units) (length xs) i.slots) i.slots h refl (power_or_none (length s.names) i.slots i.counted);
       count = omega (arith, h.o4, h.o5);
     }
 
@@ -142,9 +142,9 @@ holds_names b s xs small good some i =
     let ns = s.names in
     let p = parts_of b s xs i in
     let r = reads b s xs small i in
-    let pool = pool_place 9 (length s.units) (length xs) i.slots in
+    let pool = pool_offset 9 (length s.units) (length xs) i.slots in
     let pool_is : pool_at b ≡ pool = r.is.o6 in
-    let table_is : table_at b ≡ table_place 9 (length s.units) (length xs) = r.is.o4 in
+    let table_is : table_at b ≡ table_offset 9 (length s.units) (length xs) = r.is.o4 in
     let pool_end : pool + vectors_len ns + names_len ns ≤ length b = omega (arith, length-names_within b (pool + vectors_len ns) ns p.names) in
     let fit = slots_fit i.table i.slots ns i.filled (omega (arith, pool_end)) in
     record {
@@ -156,13 +156,13 @@ holds_names b s xs small good some i =
       filled = subst (λ m. IsFilled i.table m ns) (sym r.count) i.filled;
       slots = λ k l.
           let within : k < length i.table = omega (arith, l, r.count, i.filled.len) in
-          let read = slot_stands b (table_place 9 (length s.units) (length xs)) i.table k free_slot within (fit k free_slot within) p.slots_stand in
+          let read = slot_stands b (table_offset 9 (length s.units) (length xs)) i.table k free_slot within (fit k free_slot within) p.slots_stand in
           record { name = ap (λ n. u32_at b (n + 8 * k)) table_is ∙ read.0; vector = ap (λ n. u32_at b (n + 8 * k + 4)) table_is ∙ read.1 };
       names = λ k d l.
-          ap (string_at b) (ap (λ n. n + name_place ns k) pool_is ∙ omega (arith, sum_of_names (take k ns)))
+          ap (string_at b) (ap (λ n. n + name_offset ns k) pool_is ∙ omega (arith, sum_of_names (take k ns)))
           ∙ string_at-stands b (pool + vectors_len ns + sum_by (λ n. length (name_bytes n)) (take k ns)) (get_or ns k d).name (good.names k d l).no_zero (StandsAt-item name_bytes b _ ns k d l p.names);
       vectors = λ k d l.
-          ap (vector_at b) (ap (λ n. n + vector_place ns k) pool_is ∙ omega (arith, sum_of_vectors (take k ns)))
+          ap (vector_at b) (ap (λ n. n + vector_offset ns k) pool_is ∙ omega (arith, sum_of_vectors (take k ns)))
           ∙ vector_at-stands b (pool + sum_by (λ n. length (vector_bytes n)) (take k ns)) (get_or ns k d).words
           (omega (arith, small, vector_within b pool ns k d l p.vectors)) (good.names k d l).fit (StandsAt-item vector_bytes b _ ns k d l p.vectors);
     } where
@@ -170,14 +170,14 @@ holds_names b s xs small good some i =
       length-names_within b at ns stands = omega (arith, StandsAt-within b at (flat_map name_bytes ns) stands, length-names ns)
 
 -- with no names there are no slots, and a probe ends at once
-no_slots : (b name : List ℕ) → 28 ≤ length b → index_fault b ≡ None → slot_count b ≡ 0 → probe b name ≡ record { answer = Ok None; looks = 0 }
+no_slots : (b name : List ℕ) → 28 ≤ length b → index_fault b ≡ None → slot_count b ≡ 0 → probe b name ≡ record { answer = Ok None; steps = 0 }
 unfolding probe_from
-no_slots b name long sound none = probe_is b name long sound ∙ ap (λ n. probe_from (look_at b name) n 0) none
+no_slots b name long sound none = probe_is b name long sound ∙ ap (λ n. probe_from (step_at b name) n 0) none
 
-nothing_in_none : (b name : List ℕ) (ns : List Named) → probe b name ≡ record { answer = Ok None; looks = 0 } → FindsNothing b ns name
-nothing_in_none b name ns all = record { answer = ap (λ (x : Probed). x.answer) all; looks = subst (λ n. n ≤ length ns + 1) (sym (ap (λ (x : Probed). x.looks) all)) (omega arith) }
+nothing_in_none : (b name : List ℕ) (ns : List Named) → probe b name ≡ record { answer = Ok None; steps = 0 } → FindsNothing b ns name
+nothing_in_none b name ns all = record { answer = ap (λ (x : Probed). x.answer) all; steps = subst (λ n. n ≤ length ns + 1) (sym (ap (λ (x : Probed). x.steps) all)) (omega arith) }
 
-ends_at_once : (b : List ℕ) (s : Scan) (xs : List AddressEntry) → length b < 2 ^ 32 → IsLayoutOf 9 s xs b → length s.names ≡ 0 → (name : List ℕ) → probe b name ≡ record { answer = Ok None; looks = 0 }
+ends_at_once : (b : List ℕ) (s : Scan) (xs : List AddressEntry) → length b < 2 ^ 32 → IsLayoutOf 9 s xs b → length s.names ≡ 0 → (name : List ℕ) → probe b name ≡ record { answer = Ok None; steps = 0 }
 ends_at_once b s xs small i none name =
     let r = reads b s xs small i in
     no_slots b name r.long r.sound (r.count ∙ count_of_none (length s.names) i.slots i.counted none)
@@ -194,7 +194,7 @@ answered b s xs small good i =
 
 pub answers : (b : List ℕ) (s : Scan) (xs : List AddressEntry) → length b < 2 ^ 32 → IsWellFormedScan s → IsLayoutOf 9 s xs b → AnswersFor b s.names
 answers b s xs small good i =
-    answers_every b s.names (answered b s xs small good i) (λ none name. ap (λ (x : Probed). x.looks) (ends_at_once b s xs small i (ap length none) name))
+    answers_every b s.names (answered b s xs small good i) (λ none name. ap (λ (x : Probed). x.steps) (ends_at_once b s xs small i (ap length none) name))
 
 pub lists_units : (b : List ℕ) (s : Scan) (xs : List AddressEntry) → length b < 2 ^ 32 → AreUnits s.units → IsLayoutOf 9 s xs b → index_units b ≡ s.units
 lists_units b s xs small units i =

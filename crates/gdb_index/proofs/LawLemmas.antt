@@ -51,46 +51,46 @@ slots_exceed_names_lem (suc n) slots some counted = (counted.power_of_two, omega
 -- the first unused slot of a probe is one
 one_unused : (slots : ℕ) (used : List ℕ) (hash s t : ℕ) → IsFirstUnused slots used hash s → IsFirstUnused slots used hash t → s ≡ t
 one_unused slots used hash s t p q =
-    elim (cases_lt p.look q.look) [
-      | inl before ↦ absurd (p.unused (subst (λ x. Contains used x) p.is (q.others p.look before)))
-      | inr not_before ↦ elim (cases_lt q.look p.look) [
-        | inl after ↦ absurd (q.unused (subst (λ x. Contains used x) q.is (p.others q.look after)))
+    elim (cases_lt p.step q.step) [
+      | inl before ↦ absurd (p.unused (subst (λ x. Contains used x) p.is (q.others p.step before)))
+      | inr not_before ↦ elim (cases_lt q.step p.step) [
+        | inl after ↦ absurd (q.unused (subst (λ x. Contains used x) q.is (p.others q.step after)))
         | inr not_after ↦
-            let same : p.look ≡ q.look = omega (arith, not_before, not_after) in
+            let same : p.step ≡ q.step = omega (arith, not_before, not_after) in
             sym p.is ∙ ap (slot_of slots hash) same ∙ q.is
       ]
     ]
 
-same_places_to : (ts us : List Slot) (slots : ℕ) (ns : List Named) (n : ℕ) (p : IsFilledTo ts slots ns n) (q : IsFilledTo us slots ns n) (k : ℕ) → k ≤ n → take k p.places ≡ take k q.places
-same_places_to ts us slots ns n p q zero l = refl
-same_places_to ts us slots ns n p q (suc k) l =
+same_used_to : (ts us : List Slot) (slots : ℕ) (ns : List Named) (n : ℕ) (p : IsFilledTo ts slots ns n) (q : IsFilledTo us slots ns n) (k : ℕ) → k ≤ n → take k p.used_slots ≡ take k q.used_slots
+same_used_to ts us slots ns n p q zero l = refl
+same_used_to ts us slots ns n p q (suc k) l =
     let d : Named = record { name = []; words = [] } in
-    let before : take k p.places ≡ take k q.places = same_places_to ts us slots ns n p q k (omega (arith, l)) in
-    let here : get_or p.places k 0 ≡ get_or q.places k 0 =
-    one_unused slots (take k q.places) (name_hash (get_or ns k d).name) (get_or p.places k 0) (get_or q.places k 0) (subst (λ used. IsFirstUnused slots used (name_hash (get_or ns k d).name) (get_or p.places k 0)) before (p.placed k d (omega (arith, l)))) (q.placed k d (omega (arith, l))) in
-    ap (λ i. take i p.places) (next k)
-    ∙ take_more p.places k 0 (omega (arith, l, p.count))
-    ∙ ap (λ x. x ++ get_or p.places k 0 ∷ []) before
-    ∙ ap (λ x. take k q.places ++ x ∷ []) here
-    ∙ sym (take_more q.places k 0 (omega (arith, l, q.count)))
-    ∙ ap (λ i. take i q.places) (sym (next k)) where
+    let before : take k p.used_slots ≡ take k q.used_slots = same_used_to ts us slots ns n p q k (omega (arith, l)) in
+    let here : get_or p.used_slots k 0 ≡ get_or q.used_slots k 0 =
+    one_unused slots (take k q.used_slots) (name_hash (get_or ns k d).name) (get_or p.used_slots k 0) (get_or q.used_slots k 0) (subst (λ used. IsFirstUnused slots used (name_hash (get_or ns k d).name) (get_or p.used_slots k 0)) before (p.placed k d (omega (arith, l)))) (q.placed k d (omega (arith, l))) in
+    ap (λ i. take i p.used_slots) (next k)
+    ∙ take_more p.used_slots k 0 (omega (arith, l, p.count))
+    ∙ ap (λ x. x ++ get_or p.used_slots k 0 ∷ []) before
+    ∙ ap (λ x. take k q.used_slots ++ x ∷ []) here
+    ∙ sym (take_more q.used_slots k 0 (omega (arith, l, q.count)))
+    ∙ ap (λ i. take i q.used_slots) (sym (next k)) where
       next : (k : ℕ) → suc k ≡ k + 1
       next k = omega arith
 
-same_places : (ts us : List Slot) (slots : ℕ) (ns : List Named) (n : ℕ) (p : IsFilledTo ts slots ns n) (q : IsFilledTo us slots ns n) → p.places ≡ q.places
-same_places ts us slots ns n p q =
-    sym (take_all n p.places (omega (arith, p.count))) ∙ same_places_to ts us slots ns n p q n (omega arith) ∙ take_all n q.places (omega (arith, q.count))
+same_used : (ts us : List Slot) (slots : ℕ) (ns : List Named) (n : ℕ) (p : IsFilledTo ts slots ns n) (q : IsFilledTo us slots ns n) → p.used_slots ≡ q.used_slots
+same_used ts us slots ns n p q =
+    sym (take_all n p.used_slots (omega (arith, p.count))) ∙ same_used_to ts us slots ns n p q n (omega arith) ∙ take_all n q.used_slots (omega (arith, q.count))
 
 same_slot : (ts us : List Slot) (slots : ℕ) (ns : List Named) (n : ℕ) (p : IsFilledTo ts slots ns n) (q : IsFilledTo us slots ns n) (s : ℕ) → s < slots → get_or ts s free_slot ≡ get_or us s free_slot
 same_slot ts us slots ns n p q s l =
-    let places = same_places ts us slots ns n p q in
-    elim (contains_or_lacks p.places s) [
+    let used_slots = same_used ts us slots ns n p q in
+    elim (contains_or_lacks p.used_slots s) [
       | inl has ↦
-          let at : get_or p.places has.0 0 ≡ s = get_or_default p.places has.0 0 s has.1 ∙ has.2 in
+          let at : get_or p.used_slots has.0 0 ≡ s = get_or_default p.used_slots has.0 0 s has.1 ∙ has.2 in
           let here : get_or ts s free_slot ≡ slot_for ns has.0 = ap (λ x. get_or ts x free_slot) (sym at) ∙ p.stands has.0 (omega (arith, p.count, has.1)) in
-          let there : get_or us s free_slot ≡ slot_for ns has.0 = ap (λ x. get_or us x free_slot) (sym at ∙ ap (λ (xs : List ℕ). get_or xs has.0 0) places) ∙ q.stands has.0 (omega (arith, p.count, has.1)) in
+          let there : get_or us s free_slot ≡ slot_for ns has.0 = ap (λ x. get_or us x free_slot) (sym at ∙ ap (λ (xs : List ℕ). get_or xs has.0 0) used_slots) ∙ q.stands has.0 (omega (arith, p.count, has.1)) in
           here ∙ sym there
-      | inr lacks ↦ p.free s l lacks ∙ sym (q.free s l (λ h. lacks (subst (λ xs. Contains xs s) (sym places) h)))
+      | inr lacks ↦ p.free s l lacks ∙ sym (q.free s l (λ h. lacks (subst (λ xs. Contains xs s) (sym used_slots) h)))
     ]
 
 one_table : (ts us : List Slot) (slots : ℕ) (ns : List Named) → IsFilled ts slots ns → IsFilled us slots ns → ts ≡ us

@@ -18,4 +18,3 @@ pub mod Headline
 pub mod Indexes
 pub mod Rooms
 pub mod LawLemmas
-pub mod RowLemmas

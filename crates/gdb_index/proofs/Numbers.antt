@@ -26,11 +26,11 @@ bit_or-one n =
 below_half : (j k : ℕ) → 2 ^ k < 2 ^ j → 2 ^ k ≤ 2 ^ j / 2
 below_half j k less =
     elim (cases_lt k j) [
-      | inl lt ↦ omega (arith, pow-le-pow_right {n = 2} (omega arith) (step lt), pow-suc 2 k)
+      | inl lt ↦ omega (arith, pow-le-pow_right {n = 2} (omega arith) (next_at_most lt), pow-suc 2 k)
       | inr le ↦ absurd (omega (arith, pow-le-pow_right {n = 2} (omega arith) le))
     ] where
-      step : {a b : ℕ} → a < b → suc a ≤ b
-      step h = omega arith
+      next_at_most : {a b : ℕ} → a < b → suc a ≤ b
+      next_at_most h = omega arith
 
 pub IsLeastPower-from_half : (n p : ℕ) → 0 < n → IsPowerOfTwo p → n ≤ p → p / 2 < max 1 n → IsLeastPower n p
 IsLeastPower-from_half n p some (j, is) above half = record {
@@ -50,7 +50,7 @@ IsSlotCount-from_half (suc n) slots some power above half =
       order : (n : ℕ) → n * 4 ≡ 4 * n
       order n = omega arith
 
--- a look's place before it is taken modulo the slots
-pub looks_fit : (slots hash look x : ℕ) → slots < 2 ^ 32 → hash < 2 ^ 32 → look < slots → x < slots → hash + look * with_lowest_bit x < 2 ^ 64
-looks_fit slots hash look x table hashed within below =
-    omega (arith, mul-le look (with_lowest_bit x) 4294967294 4294967295 (omega arith) (omega arith))
+-- a step's offset before it is taken modulo the slots
+pub steps_fit : (slots hash step x : ℕ) → slots < 2 ^ 32 → hash < 2 ^ 32 → step < slots → x < slots → hash + step * with_lowest_bit x < 2 ^ 64
+steps_fit slots hash step x table hashed within below =
+    omega (arith, mul-le step (with_lowest_bit x) 4294967294 4294967295 (omega arith) (omega arith))

@@ -5,11 +5,11 @@ use Rattle.std.proofs.lemmas.List.{get_or-set_same, get_or-set_other, length-set
 use Rattle.std.proofs.lemmas.Bool.Decides.{nat_tests}
 use Rattle.std.specs.Prelude.{slice_index}
 use Rattle.elf_format.specs.Bytes.{le}
-use Rattle.gdb_index.specs.Passed.{looks_passed}
+use Rattle.gdb_index.specs.steps.Passed.{steps_passed}
 
 -- by the length of the bytes and the three that tell
-told_by : ℕ → ℕ → ℕ → ℕ → ℕ → ℕ
-told_by n s low middle high = cond (nat_le (3 * s + 3) n) (low + 256 * middle + 65536 * high) 0
+noted_in : ℕ → ℕ → ℕ → ℕ → ℕ → ℕ
+noted_in n s low middle high = cond (nat_le (3 * s + 3) n) (low + 256 * middle + 65536 * high) 0
 
 at_itself : (at : ℕ) → at + 0 ≡ at
 at_itself at = omega arith
@@ -18,13 +18,13 @@ three_bytes : (bytes : List ℕ) (at : ℕ) → le bytes at 3 ≡ slice_index by
 unfolding le
 three_bytes bytes at = rw at_itself (omega arith)
 
-told_of : (bytes : List ℕ) (s : ℕ) → looks_passed bytes s ≡ told_by (length bytes) s (slice_index bytes (3 * s)) (slice_index bytes (3 * s + 1)) (slice_index bytes (3 * s + 2))
-unfolding looks_passed told_by
-told_of bytes s = ap (λ (n : ℕ). cond (nat_le (3 * s + 3) (length bytes)) n 0) (three_bytes bytes (3 * s))
+noted_of : (bytes : List ℕ) (s : ℕ) → steps_passed bytes s ≡ noted_in (length bytes) s (slice_index bytes (3 * s)) (slice_index bytes (3 * s + 1)) (slice_index bytes (3 * s + 2))
+unfolding steps_passed noted_in
+noted_of bytes s = ap (λ (n : ℕ). cond (nat_le (3 * s + 3) (length bytes)) n 0) (three_bytes bytes (3 * s))
 
-same_told : (s n m a b c x y z : ℕ) → n ≡ m → a ≡ x → b ≡ y → c ≡ z → told_by n s a b c ≡ told_by m s x y z
-same_told s n m a b c x y z len low middle high =
-    ap (λ k. told_by k s a b c) len ∙ ap (λ k. told_by m s k b c) low ∙ ap (λ k. told_by m s x k c) middle ∙ ap (λ k. told_by m s x y k) high
+same_noted : (s n m a b c x y z : ℕ) → n ≡ m → a ≡ x → b ≡ y → c ≡ z → noted_in n s a b c ≡ noted_in m s x y z
+same_noted s n m a b c x y z len low middle high =
+    ap (λ k. noted_in k s a b c) len ∙ ap (λ k. noted_in m s k b c) low ∙ ap (λ k. noted_in m s x k c) middle ∙ ap (λ k. noted_in m s x y k) high
 
 three_set : List ℕ → ℕ → ℕ → ℕ → ℕ → List ℕ
 three_set bytes at low middle high = set (set (set bytes at low) (at + 1) middle) (at + 2) high
@@ -60,41 +60,41 @@ high_byte bytes at low middle high room =
     get_or-set_same (set (set bytes at low) (at + 1) middle) (at + 2) high 0 (omega (arith, room, length-set (set bytes at low) (at + 1) middle, length-set bytes at low))
 
 -- three bytes that were read
-pub looks_read : (bytes : List ℕ) (slot low middle high : ℕ) → 3 * slot + 3 ≤ length bytes → low ≡ slice_index bytes (3 * slot) → middle ≡ slice_index bytes (3 * slot + 1) → high ≡ slice_index bytes (3 * slot + 2) → low + 256 * middle + 65536 * high ≡ looks_passed bytes slot
-unfolding looks_passed
-looks_read bytes slot low middle high room first second third =
+pub steps_read : (bytes : List ℕ) (slot low middle high : ℕ) → 3 * slot + 3 ≤ length bytes → low ≡ slice_index bytes (3 * slot) → middle ≡ slice_index bytes (3 * slot + 1) → high ≡ slice_index bytes (3 * slot + 2) → low + 256 * middle + 65536 * high ≡ steps_passed bytes slot
+unfolding steps_passed
+steps_read bytes slot low middle high room first second third =
     omega (arith, first, second, third, three_bytes bytes (3 * slot)) ∙ sym (ap (λ t. cond t (le bytes (3 * slot) 3) 0) (le-leb (3 * slot + 3) (length bytes) room))
 
 -- the three bytes of a slot tell the number that was written
-pub looks_written : (bytes : List ℕ) (slot told : ℕ) → 3 * slot + 3 ≤ length bytes → looks_passed (set (set (set bytes (3 * slot) (told % 256)) (3 * slot + 1) (told / 256 % 256)) (3 * slot + 2) (told / 65536)) slot ≡ told
-unfolding three_set told_by
-looks_written bytes slot told room =
+pub steps_written : (bytes : List ℕ) (slot noted : ℕ) → 3 * slot + 3 ≤ length bytes → steps_passed (set (set (set bytes (3 * slot) (noted % 256)) (3 * slot + 1) (noted / 256 % 256)) (3 * slot + 2) (noted / 65536)) slot ≡ noted
+unfolding three_set noted_in
+steps_written bytes slot noted room =
     let at = 3 * slot in
-    let a = told % 256 in
-    let b = told / 256 % 256 in
-    let c = told / 65536 in
-    let whole : a + 256 * b + 65536 * c ≡ told = omega arith in
-    told_of (three_set bytes at a b c) slot
-    ∙ same_told slot (length (three_set bytes at a b c)) (length bytes) _ _ _ a b c (length_three bytes at a b c) (low_byte bytes at a b c room) (middle_byte bytes at a b c room) (high_byte bytes at a b c room)
+    let a = noted % 256 in
+    let b = noted / 256 % 256 in
+    let c = noted / 65536 in
+    let whole : a + 256 * b + 65536 * c ≡ noted = omega arith in
+    noted_of (three_set bytes at a b c) slot
+    ∙ same_noted slot (length (three_set bytes at a b c)) (length bytes) _ _ _ a b c (length_three bytes at a b c) (low_byte bytes at a b c room) (middle_byte bytes at a b c room) (high_byte bytes at a b c room)
     ∙ ap (λ t. cond t (a + 256 * b + 65536 * c) 0) (le-leb (3 * slot + 3) (length bytes) room)
     ∙ whole
 
--- those of another slot tell what they told
-pub looks_kept : (bytes : List ℕ) (slot low middle high s : ℕ) → (s ≡ slot → ⊥) → looks_passed (set (set (set bytes (3 * slot) low) (3 * slot + 1) middle) (3 * slot + 2) high) s ≡ looks_passed bytes s
+-- those of another slot tell what they noted
+pub steps_kept : (bytes : List ℕ) (slot low middle high s : ℕ) → (s ≡ slot → ⊥) → steps_passed (set (set (set bytes (3 * slot) low) (3 * slot + 1) middle) (3 * slot + 2) high) s ≡ steps_passed bytes s
 unfolding three_set
-looks_kept bytes slot a b c s other =
+steps_kept bytes slot a b c s other =
     let at = 3 * slot in
     let apart : (i : ℕ) → i < 3 → get_or (three_set bytes at a b c) (3 * s + i) 0 ≡ get_or bytes (3 * s + i) 0 =
     λ i below. other_byte bytes at a b c (3 * s + i) (λ e. other (omega (arith, e, below))) (λ e. other (omega (arith, e, below))) (λ e. other (omega (arith, e, below))) in
     let first : 3 * s + 0 ≡ 3 * s = omega arith in
-    told_of (three_set bytes at a b c) s
-    ∙ same_told s (length (three_set bytes at a b c)) (length bytes) _ _ _ _ _ _ (length_three bytes at a b c)
+    noted_of (three_set bytes at a b c) s
+    ∙ same_noted s (length (three_set bytes at a b c)) (length bytes) _ _ _ _ _ _ (length_three bytes at a b c)
     (ap (λ i. get_or (three_set bytes at a b c) i 0) (sym first) ∙ apart 0 (omega arith) ∙ ap (λ i. get_or bytes i 0) first) (apart 1 (omega arith)) (apart 2 (omega arith))
-    ∙ sym (told_of bytes s)
+    ∙ sym (noted_of bytes s)
 
--- where there are no bytes for a slot, no looks are told of
-pub none_outside : (bytes : List ℕ) (s : ℕ) → length bytes < 3 * s + 3 → looks_passed bytes s ≡ 0
-unfolding looks_passed
+-- where there are no bytes for a slot, no steps are noted of
+pub none_outside : (bytes : List ℕ) (s : ℕ) → length bytes < 3 * s + 3 → steps_passed bytes s ≡ 0
+unfolding steps_passed
 none_outside bytes s outside = ap (λ t. cond t (le bytes (3 * s) 3) 0) (not_le (3 * s + 3) (length bytes) outside) where
   not_le : (n m : ℕ) → m < n → nat_le n m ≡ false
   not_le n m more = grind (arith, nat_tests)
@@ -113,12 +113,12 @@ either : (t : Bool) (x : ℕ) → x ≡ 0 → cond t x 0 ≡ x
 either true x none = refl
 either false x none = sym none
 
-none_told : (n s : ℕ) → told_by n s 0 0 0 ≡ 0
-unfolding told_by
-none_told n s = either (nat_le (3 * s + 3) n) 0 refl
+none_noted : (n s : ℕ) → noted_in n s 0 0 0 ≡ 0
+unfolding noted_in
+none_noted n s = either (nat_le (3 * s + 3) n) 0 refl
 
-pub none_passed : (n s : ℕ) → looks_passed (replicate n 0) s ≡ 0
+pub none_passed : (n s : ℕ) → steps_passed (replicate n 0) s ≡ 0
 unfolding zeros
 none_passed n s =
-    told_of (zeros n) s
-    ∙ same_told s (length (zeros n)) n _ _ _ 0 0 0 (length-replicate n 0) (zero_byte n (3 * s)) (zero_byte n (3 * s + 1)) (zero_byte n (3 * s + 2)) ∙ none_told n s
+    noted_of (zeros n) s
+    ∙ same_noted s (length (zeros n)) n _ _ _ 0 0 0 (length-replicate n 0) (zero_byte n (3 * s)) (zero_byte n (3 * s + 1)) (zero_byte n (3 * s + 2)) ∙ none_noted n s

@@ -1,4 +1,4 @@
--- Words and looks as they are read.
+-- Words and steps as they are read.
 use Rattle.std.proofs.Common.{◌≡◌, ℕ, zero, suc, ◌+◌, ◌-◌, ◌*◌, ◌/◌, ◌<◌, ◌≤◌, false, cond, ltb, List, length, take, drop, get_or, map, Option, Some, None, Result, Ok, Err, refl, sym, ap, ◌∙◌, arith}
 use Rattle.std.specs.Prelude.{slice_get, ◌||◌}
 use Rattle.std.proofs.lemmas.Bool.{or_from, le-ltb}
@@ -7,7 +7,7 @@ use Rattle.std.proofs.lemmas.List.{same_lists, length-take, length-drop}
 use Rattle.std.proofs.lemmas.Option.{slice_get-get_or}
 use Rattle.std.proofs.lemmas.List.FromFn.{length-map-range_with_len, get_or-map-range_with_len}
 use Rattle.elf_format.specs.Bytes.{u32_at}
-use Rattle.gdb_index_format.specs.Probe.{Look, Ends, Passes, Probed, after_look, probe_from, vector_at, look_in, look_at, slot_count}
+use Rattle.gdb_index_format.specs.Probe.{ProbeStep, Ends, Passes, Probed, after_step, probe_from, vector_at, step_in, step_at, slot_count}
 use Rattle.gdb_index_format.specs.Hash.{name_hash}
 use Rattle.gdb_index_format.specs.Slots.{slot_of}
 use Rattle.gdb_index_format.specs.declared.bad_index.BadIndex.{BadIndex}
@@ -38,26 +38,26 @@ words_in-part b at count n whole len =
     ∙ sym (number_in_part b (at + 4) n (4 * k) 4 (omega arith))
     ∙ sym (get_or-words_in part k d (omega (arith, len, whole))))
 
--- ---- a probe, look by look
+-- ---- a probe, step by step
 
-after_is : (look : Look) (other : Look) (k : ℕ) (rest : Probed) → look ≡ other → after_look look k rest ≡ after_look other k rest
-after_is look other k rest e = ap (λ x. after_look x k rest) e
+after_is : (step : ProbeStep) (other : ProbeStep) (k : ℕ) (rest : Probed) → step ≡ other → after_step step k rest ≡ after_step other k rest
+after_is step other k rest e = ap (λ x. after_step x k rest) e
 
-pub probe_step : (f : ℕ → Look) (left n k : ℕ) → left ≡ n - k → k < n → probe_from f (n - k) k ≡ after_look (f k) k (probe_from f (n - (k + 1)) (k + 1))
+pub probe_step : (f : ℕ → ProbeStep) (left n k : ℕ) → left ≡ n - k → k < n → probe_from f (n - k) k ≡ after_step (f k) k (probe_from f (n - (k + 1)) (k + 1))
 unfolding probe_from
 probe_step f zero n k e l = absurd (omega arith)
 probe_step f (suc left) n k e l =
-    ap (λ x. probe_from f x k) (sym e) ∙ ap (λ x. after_look (f k) k (probe_from f x (k + 1))) less where
+    ap (λ x. probe_from f x k) (sym e) ∙ ap (λ x. after_step (f k) k (probe_from f x (k + 1))) less where
       less : left ≡ n - (k + 1)
       less = omega arith
 
-pub probe_ends : (f : ℕ → Look) (n k : ℕ) (answer : Result (Option (List ℕ)) BadIndex) → k < n → f k ≡ Ends answer → probe_from f (n - k) k ≡ record { answer = answer; looks = k + 1 }
+pub probe_ends : (f : ℕ → ProbeStep) (n k : ℕ) (answer : Result (Option (List ℕ)) BadIndex) → k < n → f k ≡ Ends answer → probe_from f (n - k) k ≡ record { answer = answer; steps = k + 1 }
 probe_ends f n k answer l e = probe_step f (n - k) n k refl l ∙ after_is (f k) (Ends answer) k _ e
 
-pub probe_passes : (f : ℕ → Look) (n k : ℕ) → k < n → f k ≡ Passes → probe_from f (n - k) k ≡ probe_from f (n - (k + 1)) (k + 1)
+pub probe_passes : (f : ℕ → ProbeStep) (n k : ℕ) → k < n → f k ≡ Passes → probe_from f (n - k) k ≡ probe_from f (n - (k + 1)) (k + 1)
 probe_passes f n k l e = probe_step f (n - k) n k refl l ∙ after_is (f k) Passes k _ e
 
-pub probe_over : (f : ℕ → Look) (n : ℕ) → probe_from f (n - n) n ≡ record { answer = Ok None; looks = n }
+pub probe_over : (f : ℕ → ProbeStep) (n : ℕ) → probe_from f (n - n) n ≡ record { answer = Ok None; steps = n }
 unfolding probe_from
 probe_over f n = ap (λ x. probe_from f x n) none where
   none : n - n ≡ 0
@@ -73,13 +73,13 @@ vector_found b at count head all is =
     words_in-part b at (u32_at b at) (at + 4 + 4 * count - (at + 4)) (omega arith) (omega (arith, length-take (at + 4 + 4 * count - (at + 4)) (drop (at + 4) b), length-drop (at + 4) b)) in
     ap (λ x. cond x (Err VectorOutside) (Ok (Some (vector_words b at (u32_at b at))))) inside ∙ ap (λ ws. Ok (Some ws)) words
 
-pub word_in-words : (bytes : List ℕ) (place : ℕ) → place < length (words_in bytes) → 4 * place + 4 ≤ length bytes
-word_in-words bytes place l = omega (arith, length_words_in bytes)
+pub word_in-words : (bytes : List ℕ) (index : ℕ) → index < length (words_in bytes) → 4 * index + 4 ≤ length bytes
+word_in-words bytes index l = omega (arith, length_words_in bytes)
 
-pub slice_get-words_in : (bytes : List ℕ) (place word : ℕ) → place < length (words_in bytes) → word ≡ u32_at bytes (4 * place) → Some word ≡ slice_get (words_in bytes) place
-slice_get-words_in bytes place word l is =
-    sym (slice_get-get_or (words_in bytes) place 0 l ∙ ap (λ x. Some x) (get_or-words_in bytes place 0 (omega (arith, length_words_in bytes)) ∙ sym is))
+pub slice_get-words_in : (bytes : List ℕ) (index word : ℕ) → index < length (words_in bytes) → word ≡ u32_at bytes (4 * index) → Some word ≡ slice_get (words_in bytes) index
+slice_get-words_in bytes index word l is =
+    sym (slice_get-get_or (words_in bytes) index 0 l ∙ ap (λ x. Some x) (get_or-words_in bytes index 0 (omega (arith, length_words_in bytes)) ∙ sym is))
 
-pub look_is : (b n : List ℕ) (slots hash k s : ℕ) (x : Look) → x ≡ look_in b n s → s ≡ slot_of slots hash k → hash ≡ name_hash n → slots ≡ slot_count b → look_at b n k ≡ x
-look_is b n slots hash k s x found at hashed counted =
-    ap (λ m. look_in b n (slot_of m (name_hash n) k)) (sym counted) ∙ ap (λ h. look_in b n (slot_of slots h k)) (sym hashed) ∙ ap (look_in b n) (sym at) ∙ sym found
+pub step_is : (b n : List ℕ) (slots hash k s : ℕ) (x : ProbeStep) → x ≡ step_in b n s → s ≡ slot_of slots hash k → hash ≡ name_hash n → slots ≡ slot_count b → step_at b n k ≡ x
+step_is b n slots hash k s x found at hashed counted =
+    ap (λ m. step_in b n (slot_of m (name_hash n) k)) (sym counted) ∙ ap (λ h. step_in b n (slot_of slots h k)) (sym hashed) ∙ ap (step_in b n) (sym at) ∙ sym found

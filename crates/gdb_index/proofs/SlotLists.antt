@@ -9,7 +9,8 @@ use Rattle.std.proofs.lemmas.Grind.{flat_map-append}
 use Rattle.std.proofs.lemmas.Slice.{take-put_mid, drop-put_mid}
 use borrow.Rule.Slice.PartMut.{put_mid}
 use Rattle.elf_format.specs.Bytes.{u32_at}
-use Rattle.gdb_index.specs.Table.{Slot, free_slot, slot_bytes, table_bytes, zero_table, with_slot, IsFree}
+use Rattle.gdb_index.specs.Table.{Slot, free_slot, slot_bytes, table_bytes}
+use Rattle.gdb_index.specs.steps.FreeSlots.{zero_table, with_slot, IsFree}
 use Rattle.gdb_index.proofs.Standing.{StandsAt, StandsAt-item, StandsAt-left, StandsAt-right, u32_at-stands}
 
 -- a slot whose numbers fit their fields
@@ -43,7 +44,7 @@ sum_of_eights : (slots : List Slot) → sum_by (λ s. length (slot_bytes s)) slo
 sum_of_eights [] = refl
 sum_of_eights (s ∷ slots) = omega (arith, sum_by-cons (λ (x : Slot). length (slot_bytes x)) s slots, sum_of_eights slots)
 
--- the numbers of a slot of a table that stands at a place
+-- the numbers of a slot of a table that stands at an offset
 pub slot_stands : (b : List ℕ) (at : ℕ) (slots : List Slot) (s : ℕ) (d : Slot) → s < length slots → SlotFits (get_or slots s d) → StandsAt b at (table_bytes slots) → (u32_at b (at + 8 * s) ≡ (get_or slots s d).name) × (u32_at b (at + 8 * s + 4) ≡ (get_or slots s d).vector)
 slot_stands b at slots s d l fits stands =
     let slot = get_or slots s d in
@@ -55,7 +56,7 @@ slot_stands b at slots s d l fits stands =
 
 slot_read : (slots : List Slot) (s : ℕ) (d : Slot) → s < length slots → SlotFits (get_or slots s d) → (u32_at (table_bytes slots) (8 * s) ≡ (get_or slots s d).name) × (u32_at (table_bytes slots) (8 * s + 4) ≡ (get_or slots s d).vector)
 slot_read slots s d l fits =
-    let whole : StandsAt (table_bytes slots) 0 (table_bytes slots) = record { front = []; back = []; place = refl; parts = sym (append-nil (table_bytes slots)) } in
+    let whole : StandsAt (table_bytes slots) 0 (table_bytes slots) = record { front = []; back = []; offset = refl; parts = sym (append-nil (table_bytes slots)) } in
     let read = slot_stands (table_bytes slots) 0 slots s d l fits whole in
     (ap (u32_at (table_bytes slots)) (plain (8 * s)) ∙ read.0, ap (λ n. u32_at (table_bytes slots) (n + 4)) (plain (8 * s)) ∙ read.1) where
       plain : (n : ℕ) → n ≡ 0 + n

@@ -1,4 +1,4 @@
--- Numbers, names and vectors that stand at a place of a longer list of bytes.
+-- Numbers, names and vectors that stand at an offset of a longer list of bytes.
 use Rattle.std.proofs.Common.{◌≡◌, ◌≢◌, ℕ, zero, suc, ◌+◌, ◌*◌, ◌/◌, ◌%◌, ◌^◌, ◌<◌, ◌≤◌, Bool, false, cond, eqb, ltb, List, [], ◌∷◌, ◌++◌, length, take, drop, get_or, Option, Some, None, Ok, Err, refl, sym, ap, subst, ◌∙◌, arith, append_assoc}
 use Rattle.std.specs.Prelude.{◌||◌}
 use Rattle.std.specs.List.{All, flat_map, sum_by, position_or_len, position}
@@ -18,22 +18,22 @@ use Rattle.gdb_index.proofs.Reading.{vector_words}
 pub record StandsAt (b : List ℕ) (at : ℕ) (bytes : List ℕ) : Type 0 where
   pub front : List ℕ
   pub back : List ℕ
-  pub place : length front ≡ at
+  pub offset : length front ≡ at
   pub parts : b ≡ front ++ (bytes ++ back)
 
 pub StandsAt-left : (b : List ℕ) (at : ℕ) (xs ys : List ℕ) → StandsAt b at (xs ++ ys) → StandsAt b at xs
-StandsAt-left b at xs ys s = record { front = s.front; back = ys ++ s.back; place = s.place; parts = s.parts ∙ ap (λ (t : List ℕ). s.front ++ t) (append_assoc xs ys s.back) }
+StandsAt-left b at xs ys s = record { front = s.front; back = ys ++ s.back; offset = s.offset; parts = s.parts ∙ ap (λ (t : List ℕ). s.front ++ t) (append_assoc xs ys s.back) }
 
 pub StandsAt-right : (b : List ℕ) (at : ℕ) (xs ys : List ℕ) → StandsAt b at (xs ++ ys) → StandsAt b (at + length xs) ys
 StandsAt-right b at xs ys s = record {
   front = s.front ++ xs;
   back = s.back;
-  place = length-append s.front xs ∙ ap (λ n. n + length xs) s.place;
+  offset = length-append s.front xs ∙ ap (λ n. n + length xs) s.offset;
   parts = s.parts ∙ ap (λ (t : List ℕ). s.front ++ t) (append_assoc xs ys s.back) ∙ sym (append_assoc s.front xs (ys ++ s.back));
 }
 
 pub StandsAt-within : (b : List ℕ) (at : ℕ) (bytes : List ℕ) → StandsAt b at bytes → at + length bytes ≤ length b
-StandsAt-within b at bytes s = omega (arith, ap length s.parts, length-append s.front (bytes ++ s.back), length-append bytes s.back, s.place)
+StandsAt-within b at bytes s = omega (arith, ap length s.parts, length-append s.front (bytes ++ s.back), length-append bytes s.back, s.offset)
 
 -- item i of a list that is spelled item by item
 pub StandsAt-item : {X : Type 0} (f : X → List ℕ) (b : List ℕ) (at : ℕ) (xs : List X) (i : ℕ) (d : X) → i < length xs → StandsAt b at (flat_map f xs) → StandsAt b (at + sum_by (λ x. length (f x)) (take i xs)) (f (get_or xs i d))
@@ -46,7 +46,7 @@ StandsAt-item {X} f b at (x ∷ xs) (suc i) d l s =
 byte_at : (b : List ℕ) (at : ℕ) (bytes : List ℕ) (k : ℕ) → StandsAt b at bytes → k < length bytes → get_or b (at + k) 0 ≡ get_or bytes k 0
 byte_at b at bytes k s l =
     ap (λ (t : List ℕ). get_or t (at + k) 0) s.parts
-    ∙ ap (λ n. get_or (s.front ++ (bytes ++ s.back)) (n + k) 0) (sym s.place)
+    ∙ ap (λ n. get_or (s.front ++ (bytes ++ s.back)) (n + k) 0) (sym s.offset)
     ∙ get_or-append-add s.front (bytes ++ s.back) k 0
     ∙ get_or_append_left bytes s.back 0 k l
 
@@ -137,5 +137,5 @@ front_is name back clean =
 pub string_at-stands : (b : List ℕ) (at : ℕ) (name : List ℕ) → All (λ c. c ≢ 0) name → StandsAt b at (name ++ 0 ∷ []) → string_at b at ≡ Some name
 unfolding string_at
 string_at-stands b at name clean s =
-    let tail : drop at b ≡ name ++ (0 ∷ s.back) = ap (drop at) s.parts ∙ drop_at s.front (name ++ 0 ∷ [] ++ s.back) at s.place ∙ append_assoc name (0 ∷ []) s.back in
+    let tail : drop at b ≡ name ++ (0 ∷ s.back) = ap (drop at) s.parts ∙ drop_at s.front (name ++ 0 ∷ [] ++ s.back) at s.offset ∙ append_assoc name (0 ∷ []) s.back in
     ap front_of tail ∙ front_is name s.back clean

@@ -1,9 +1,9 @@
 -- A table in the middle of a longer list of bytes.
 use Rattle.std.proofs.Common.{◌≡◌, ℕ, ◌+◌, ◌-◌, ◌≤◌, List, ◌++◌, length, take, sym, ap, ◌∙◌, arith}
 use Rattle.std.proofs.lemmas.List.{length-append, length-take-le, take-take, take_at, append-nil, nil_from_length}
-use Rattle.gdb_index.specs.Writes.{Extends}
+use Rattle.gdb_index.specs.steps.Writes.{Extends}
 
--- what stood before the place of a write is as it was
+-- what stood before the offset of a write is as it was
 before : (a b : List ℕ) (at : ℕ) (xs : List ℕ) → Extends a b at xs → at ≤ length a → take at b ≡ take at a
 before a b at xs p within =
     sym (take-take at (at + length xs) b (omega arith)) ∙ ap (take at) p.front ∙ take_at (take at a) xs at (length-take-le at a within)

@@ -20,7 +20,7 @@ same_unit u v p q = grind arith
 unit_in-bytes : (u : CuBoundary) → u.offset < 2 ^ 64 → u.length < 2 ^ 64 → unit_in (unit_bytes u) ≡ u
 unit_in-bytes u p q =
     let b = unit_bytes u in
-    let whole : StandsAt b 0 (to_le_bytes w64 u.offset ++ to_le_bytes w64 u.length) = record { front = []; back = []; place = refl; parts = sym (append-nil b) } in
+    let whole : StandsAt b 0 (to_le_bytes w64 u.offset ++ to_le_bytes w64 u.length) = record { front = []; back = []; offset = refl; parts = sym (append-nil b) } in
     same_unit (unit_in b) u
     (u64_at-stands b 0 u.offset p (StandsAt-left b 0 (to_le_bytes w64 u.offset) (to_le_bytes w64 u.length) whole))
     (u64_at-stands b 8 u.length q (StandsAt-right b 0 (to_le_bytes w64 u.offset) (to_le_bytes w64 u.length) whole))
@@ -38,7 +38,7 @@ units_in-records (u ∷ us) fit =
 part_is : (b : List ℕ) (at n : ℕ) (bytes : List ℕ) → length bytes ≡ n → StandsAt b at bytes → slice_range b at (at + n) ≡ bytes
 part_is b at n bytes len s =
     ap (λ k. take k (drop at b)) (less at n)
-    ∙ ap (take n) (ap (drop at) s.parts ∙ drop_at s.front (bytes ++ s.back) at s.place)
+    ∙ ap (take n) (ap (drop at) s.parts ∙ drop_at s.front (bytes ++ s.back) at s.offset)
     ∙ take_at bytes s.back n len where
       less : (a n : ℕ) → a + n - a ≡ n
       less a n = omega arith

@@ -11,7 +11,7 @@ use Rattle.gdb_index.specs.Scan.{Scan}
 use Rattle.gdb_index.specs.Table.{Slot, table_bytes}
 use Rattle.gdb_index.specs.Filled.{IsFilled}
 
--- numbers of four bytes, one behind another
+-- numbers of four bytes, one after another
 abbrev pub u32s_bytes : List ℕ → List ℕ
 u32s_bytes numbers = flat_map (to_le_bytes w32) numbers
 
@@ -31,28 +31,28 @@ vector_bytes n = u32s_bytes (length n.words ∷ n.words)
 abbrev pub name_bytes : Named → List ℕ
 name_bytes n = n.name ++ 0 ∷ []
 
--- where the parts behind the list of units begin
-abbrev pub addresses_place : ℕ → ℕ → ℕ
-addresses_place version units = header_len version + 16 * units
+-- the offsets of the parts after the CU list
+abbrev pub addresses_offset : ℕ → ℕ → ℕ
+addresses_offset version units = header_len version + 16 * units
 
-abbrev pub table_place : ℕ → ℕ → ℕ → ℕ
-table_place version units addresses = addresses_place version units + 20 * addresses
+abbrev pub table_offset : ℕ → ℕ → ℕ → ℕ
+table_offset version units addresses = addresses_offset version units + 20 * addresses
 
-abbrev pub shortcuts_place : ℕ → ℕ → ℕ → ℕ → ℕ
-shortcuts_place version units addresses slots = table_place version units addresses + 8 * slots
+abbrev pub shortcuts_offset : ℕ → ℕ → ℕ → ℕ → ℕ
+shortcuts_offset version units addresses slots = table_offset version units addresses + 8 * slots
 
-abbrev pub pool_place : ℕ → ℕ → ℕ → ℕ → ℕ
-pool_place version units addresses slots = shortcuts_place version units addresses slots + shortcut_len version
+abbrev pub pool_offset : ℕ → ℕ → ℕ → ℕ → ℕ
+pool_offset version units addresses slots = shortcuts_offset version units addresses slots + shortcut_len version
 
--- the version and the places of the parts: the list of type units begins where the addresses do, so it is empty
+-- the version and the offsets of the parts: the types CU list begins where the address area does, so it is empty
 abbrev pub header : ℕ → ℕ → ℕ → ℕ → List ℕ
 header version units addresses slots =
-    version ∷ header_len version ∷ addresses_place version units ∷ addresses_place version units ∷ table_place version units addresses
-    ∷ shortcuts_place version units addresses slots ∷ pool_place version units addresses slots ∷ []
+    version ∷ header_len version ∷ addresses_offset version units ∷ addresses_offset version units ∷ table_offset version units addresses
+    ∷ shortcuts_offset version units addresses slots ∷ pool_offset version units addresses slots ∷ []
 
--- The bytes are the index of a scan with these addresses: header, units, no type units, addresses, the table
--- in which each name stands in the first slot of its probe that no earlier name holds, shortcuts of zeros, the
--- vectors, the names, and zeros to the end.
+-- The bytes are the index of a scan with these addresses: header, CU list, no types CU list, address area,
+-- the symbol hash table in which each name stands in the first slot of its probe that no earlier name holds, a shortcut
+-- table of zeros, the CU vectors, the names, and zeros to the end.
 pub record IsLayoutOf (version : ℕ) (s : Scan) (addresses : List AddressEntry) (b : List ℕ) : Type 0 where
   pub slots : ℕ
   pub counted : IsSlotCount (length s.names) slots

@@ -2,12 +2,9 @@ pub mod Scan
 pub mod Size
 pub mod Pool
 pub mod Table
-pub mod Passed
 pub mod Filled
 pub mod Layout
 pub mod Answers
 pub mod Vector
-pub mod Lookup
-pub mod Writes
 pub mod Laws
-pub mod Rows
+pub mod steps

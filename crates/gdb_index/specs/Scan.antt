@@ -1,25 +1,25 @@
--- What the objects of a program publish, gathered for one index.
+-- What all objects of a program publish, for one index.
 use Rattle.std.specs.Prelude.{◌≡◌, ◌≢◌, ℕ, ◌%◌, ◌^◌, ◌<◌, ◌≤◌, List, [], length, sum}
 use Rattle.std.specs.List.{All, sum_by}
 use Rattle.std.specs.List.Sorted.{IsNonDecreasing}
 use Rattle.gdb_index_format.specs.declared.unit.CuBoundary.{CuBoundary}
 use Rattle.gdb_index_format.specs.Named.{Named, AreDistinct}
 
--- the units of all objects, the names in pool order with their words, how many sections are placed, and how
--- many units each object has
+-- the units of all objects, the names in pool order with their CU vectors, the number of placed sections,
+-- and the number of units of each object
 pub record Scan : Type 0 where
   pub units : List CuBoundary
   pub names : List Named
   pub placed : ℕ
   pub unit_counts : List ℕ
 
--- the number of the unit that a word names: all of it but the kind and the static bit (GDB manual, "Index
+-- the CU index of an element: all of it but the symbol kind and the static bit (GDB manual, "Index
 -- Section Format", the elements of a CU vector)
 abbrev pub unit_number : ℕ → ℕ
 unit_number word = word % 2 ^ 28
 
--- A name that an index of so many units can hold: no zero byte ends it early, and its words ascend and name
--- units of the index.
+-- A name that an index of so many units can hold: no zero byte ends it early, and the elements of its CU vector
+-- ascend and have CU indexes below the number of units.
 pub record IsIndexName (count : ℕ) (n : Named) : Type 0 where
   pub no_zero : All (λ c. c ≢ 0) n.name
   pub some : n.words ≢ []

@@ -18,7 +18,7 @@ pub record IsCountable (version : ℕ) (c : IndexCounts) (n : ℕ) : Type 0 wher
   pub size : IsIndexSize version c n
   pub below : n < 2 ^ 32
 
--- a size that they cannot count, and that is told
+-- a size that they cannot count, which the error holds
 pub record IsTooLarge (version : ℕ) (c : IndexCounts) (e : IndexTooLarge) : Type 0 where
   pub size : IsIndexSize version c e.0
   pub above : 2 ^ 32 ≤ e.0

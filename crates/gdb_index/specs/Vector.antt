@@ -1,4 +1,4 @@
--- Words that follow one another.
+-- The elements of a CU vector, which follow one another, four bytes each.
 use Rattle.std.specs.Prelude.{ℕ, ◌*◌, ◌/◌, List, map, length}
 use Rattle.std.specs.List.{range_with_len}
 use Rattle.elf_format.specs.Bytes.{u32_at}

@@ -1,21 +1,21 @@
-//! Fills the hash table of an index with the names, in the order of the pool.
+//! Fills the symbol hash table of an index with the names, in the order of the constant pool.
 
 ghost use Rattle.std.specs.Prelude.{◌≡◌, ℕ, ◌+◌, ◌*◌, ◌<◌, ◌≤◌, ◌^◌, length};
 ghost use Rattle.std.specs.Int.{IsPowerOfTwo};
 ghost use Rattle.gdb_index_format.specs.Named.{all_named};
-ghost use Rattle.gdb_index.specs.Table.{zero_table};
+ghost use Rattle.gdb_index.specs.steps.FreeSlots.{zero_table};
 ghost use Rattle.gdb_index.specs.Pool.{vectors_len, names_len};
-ghost use Rattle.gdb_index.specs.Filled.{IsFilledTable};
+ghost use Rattle.gdb_index.specs.steps.FilledBytes.{IsFilledTable};
 
 use crate::hash::gdb_hash;
-use crate::passed::{looks_passed, pass_looks};
+use crate::passed::{pass_steps, steps_passed};
 use crate::pool::{name_len, vector_len};
 use crate::table::{insert_name, slot_at};
 use gdb_index_format::NameWords;
 
 /// Puts each name into the first slot of its probe that no earlier name holds, in a table of zeros. The
-/// vectors of all names have `vectors` bytes, behind which the names stand. `passed` is written over: it tells how
-/// far the probes have come.
+/// CU vectors of all names have `vectors` bytes, and the names follow them. `passed` is written over: it counts the
+/// probe steps that are known to meet taken slots.
 pub(crate) fn fill_table(
     table: &mut [u8],
     passed: &mut [u8],
@@ -37,9 +37,9 @@ pub(crate) fn fill_table(
     for named in names {
         let hash = gdb_hash(named.name);
         let start = slot_at(slots, hash, 0);
-        let known = looks_passed(passed, start);
-        let look = insert_name(table, slots, hash, known, name, vector);
-        pass_looks(passed, start, look + 1);
+        let known = steps_passed(passed, start);
+        let step = insert_name(table, slots, hash, known, name, vector);
+        pass_steps(passed, start, step + 1);
         vector += vector_len(named);
         name += name_len(named);
     }

@@ -1,14 +1,18 @@
-//! The definitions that this crate's contracts cite have one answer each, and what callers rely on follows
-//! from them: laws over them, which no code is needed for.
+//! Laws over the definitions: an index has one layout, and what callers rely on follows from it. Each law is the
+//! contract of a function that does nothing.
 
-ghost use Rattle.gdb_index.specs.Laws.{HashIgnoresCase, SlotsExceedNames, IndexesAreOne};
+ghost use Rattle.std.specs.Prelude.{◌≡◌};
+ghost use Rattle.gdb_index_format.specs.Version.{index_version, header_len, shortcut_len};
+ghost use Rattle.gdb_index.specs.Laws.{HashIgnoresCase, SlotsExceedNames, IndexesAreOne, LayoutAnswers};
+
+use crate::version::{HEADER_LEN, INDEX_VERSION, SHORTCUTS_LEN};
 
 /// The hash of a name is the same for all names that differ in the case of ASCII letters alone.
 pub fn hash_ignores_case()
     ensures { HashIgnoresCase }
 {}
 
-/// A hash table of some names has more slots than names, and a power of two of them.
+/// A symbol hash table with a name has more slots than names, and a power of two of them.
 pub fn slots_exceed_names()
     ensures { SlotsExceedNames }
 {}
@@ -16,4 +20,18 @@ pub fn slots_exceed_names()
 /// A scan result and its address entries have one index of a size.
 pub fn indexes_are_one()
     ensures { IndexesAreOne }
+{}
+
+/// The bytes of an index return the CU vector of each name, and Absent for every other byte string. The name of
+/// pool index i, from 1, is found within i probe steps, and an absent one ends within one step more than there are
+/// names, or without a step where there are none.
+pub fn layout_answers()
+    ensures { LayoutAnswers }
+{}
+
+/// The version that is read and written, and the lengths that depend on it, are those of the definitions.
+pub fn version_numbers()
+    ensures version { INDEX_VERSION ≡ index_version }
+    ensures header { HEADER_LEN ≡ header_len index_version }
+    ensures shortcuts { SHORTCUTS_LEN ≡ shortcut_len index_version }
 {}

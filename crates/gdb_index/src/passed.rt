@@ -1,18 +1,18 @@
-//! How far the probes of a hash table have come while it is filled. All names whose probes begin at one slot have one
-//! probe, so a name need not look again where an earlier one met taken slots. A slot has three bytes for it: there is room
-//! for them where the vectors of the names will stand, since a vector has eight bytes or more and there are at most
-//! eight slots for three names.
+//! Counts the probe steps that are known to meet taken slots while a hash table is filled. All names whose probes begin
+//! at one slot have one probe, so a name skips the steps at which an earlier name met taken slots. Each slot has three
+//! bytes for its count. The bytes lie where the CU vectors will stand: a vector has eight bytes or more, and there are at
+//! most eight slots for three names.
 
 ghost use Rattle.std.specs.Prelude.{◌≡◌, ℕ, ◌+◌, ◌*◌, ◌<◌, ◌≤◌, ◌^◌, length, min};
-ghost use Rattle.gdb_index.specs.Passed as passed_by;
+ghost use Rattle.gdb_index.specs.steps.Passed as passed_by;
 
-/// How many bytes a slot has.
+/// The size of a slot's count in bytes.
 pub(crate) const PASSED_LEN: usize = 3;
 
-/// How many looks of the probes that begin at a slot are known to meet taken slots.
-pub(crate) fn looks_passed(passed: &[u8], slot: usize) -> usize
+/// Returns how many steps of the probes that begin at a slot are known to meet taken slots.
+pub(crate) fn steps_passed(passed: &[u8], slot: usize) -> usize
     requires { slot < 2 ^ 32 }
-    ensures { result ≡ passed_by.looks_passed passed.now slot }
+    ensures { result ≡ passed_by.steps_passed passed.now slot }
 {
     let at = PASSED_LEN * slot;
     if at + PASSED_LEN > passed.len() {
@@ -23,19 +23,19 @@ pub(crate) fn looks_passed(passed: &[u8], slot: usize) -> usize
         + 65536 * usize::from(passed[at + 2])
 }
 
-/// Tells that so many looks of the probes that begin at a slot meet taken slots, as far as three bytes can.
-pub(crate) fn pass_looks(passed: &mut [u8], slot: usize, looks: usize)
+/// Records that so many steps of the probes that begin at a slot meet taken slots, at most 16,777,215.
+pub(crate) fn pass_steps(passed: &mut [u8], slot: usize, steps: usize)
     requires { slot < 2 ^ 32 }
-    ensures at_most { passed_by.looks_passed passed.new slot ≤ looks }
-    ensures told { 3 * slot + 3 ≤ length passed.old → passed_by.looks_passed passed.new slot ≡ min looks 16777215 }
-    ensures others { (s : ℕ) → (s ≡ slot → ⊥) → passed_by.looks_passed passed.new s ≡ passed_by.looks_passed passed.old s }
+    ensures at_most { passed_by.steps_passed passed.new slot ≤ steps }
+    ensures noted { 3 * slot + 3 ≤ length passed.old → passed_by.steps_passed passed.new slot ≡ min steps 16777215 }
+    ensures others { (s : ℕ) → (s ≡ slot → ⊥) → passed_by.steps_passed passed.new s ≡ passed_by.steps_passed passed.old s }
 {
     let at = PASSED_LEN * slot;
     if at + PASSED_LEN > passed.len() {
         return;
     }
-    let told = looks.min(0xff_ffff);
-    passed[at] = (told % 256) as u8;
-    passed[at + 1] = (told / 256 % 256) as u8;
-    passed[at + 2] = (told / 65536) as u8;
+    let noted = steps.min(0xff_ffff);
+    passed[at] = (noted % 256) as u8;
+    passed[at + 1] = (noted / 256 % 256) as u8;
+    passed[at + 2] = (noted / 65536) as u8;
 }

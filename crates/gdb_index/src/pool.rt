@@ -1,4 +1,4 @@
-//! How many bytes names and their vectors take in the pool of an index.
+//! The sizes of names and CU vectors in the constant pool of an index.
 
 ghost use Rattle.std.specs.Prelude.{◌≡◌, ◌+◌, ◌<◌, ◌^◌};
 ghost use Rattle.gdb_index_format.specs.Named.{named as named_of, all_named};
@@ -6,7 +6,7 @@ ghost use Rattle.gdb_index.specs.Pool.{vector_len as vector_len_of, name_len as 
 
 use gdb_index_format::NameWords;
 
-/// How many bytes the vector of a name has: its count and its words.
+/// Returns the size in bytes of the CU vector of a name: its count and its elements.
 pub(crate) fn vector_len(named: &NameWords<'_>) -> u32
     requires { vector_len_of (named_of named.now) < 2 ^ 32 }
     ensures { result ≡ vector_len_of (named_of named.now) }
@@ -14,7 +14,7 @@ pub(crate) fn vector_len(named: &NameWords<'_>) -> u32
     4 + 4 * named.words.len() as u32
 }
 
-/// How many bytes a name has, with the zero byte that ends it.
+/// Returns the size of a name in bytes, with its zero byte.
 pub(crate) fn name_len(named: &NameWords<'_>) -> u32
     requires { name_len_of (named_of named.now) < 2 ^ 32 }
     ensures { result ≡ name_len_of (named_of named.now) }
@@ -22,7 +22,7 @@ pub(crate) fn name_len(named: &NameWords<'_>) -> u32
     named.name.len() as u32 + 1
 }
 
-/// How many bytes the vectors of all names have.
+/// Returns the size in bytes of the CU vectors of all names.
 pub(crate) fn vectors_len_of_all(names: &[NameWords<'_>]) -> u32
     requires { vectors_len (all_named names.now) < 2 ^ 32 }
     ensures { result ≡ vectors_len (all_named names.now) }

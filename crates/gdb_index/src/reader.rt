@@ -5,8 +5,8 @@ ghost use Rattle.std.specs.Prelude.{◌≡◌, ℕ, ◌+◌, ◌*◌, ◌<◌, �
 ghost use Rattle.std.specs.List.{position};
 ghost use Rattle.std.specs.Option.{option_copied};
 ghost use Rattle.elf_format.specs.Bytes.{string_at};
-ghost use Rattle.gdb_index_format.specs.Probe.{index_fault, slot_count, vector_at, look_in, probe};
-ghost use Rattle.gdb_index.specs.Lookup.{seen_look, ArePartsOf};
+ghost use Rattle.gdb_index_format.specs.Probe.{index_fault, slot_count, vector_at, step_in, probe};
+ghost use Rattle.gdb_index.specs.steps.Lookup.{seen_step, ArePartsOf};
 
 use crate::hash::gdb_hash;
 use crate::steps::Steps;
@@ -17,7 +17,7 @@ use elf_words::{first_zero, read_u32};
 use gdb_index_format::BadIndex;
 use std::sync::ledger::Ledger;
 
-/// Where the parts of an index are that a probe reads.
+/// The offsets of the parts of an index that a probe reads, and the slot count.
 #[derive(Clone, Copy, Debug)]
 struct Parts {
     table: usize,
@@ -25,12 +25,12 @@ struct Parts {
     pool: usize,
 }
 
-/// What one look gives.
+/// What one probe step reads.
 #[derive(Drop)]
-enum Look<'a> {
+enum ProbeStep<'a> {
     /// The end of the probe.
     Ends(Result<Option<CuVector<'a>>, BadIndex>),
-    /// Another name.
+    /// A collision with another name.
     Passes,
 }
 
@@ -65,7 +65,7 @@ fn parts_of(index: &[u8]) -> Result<Parts, BadIndex>
     Ok(Parts { table, slots, pool })
 }
 
-/// The bytes from a place up to the first zero byte.
+/// Returns the bytes from an offset up to the first zero byte.
 #[tactic(auto, using(std::proofs::lemmas::List::take_rest), unfolding(elf_format::specs::Bytes::string_at))]
 fn name_from(index: &[u8], at: usize) -> Option<&[u8]>
     ensures { option_copied result ≡ string_at index.now at }
@@ -78,7 +78,7 @@ fn name_from(index: &[u8], at: usize) -> Option<&[u8]>
     Some(&tail[..len])
 }
 
-/// The vector at a place.
+/// Returns the CU vector at an offset.
 #[tactic(auto, unfolding(gdb_index_format::specs::Probe::vector_at))]
 fn vector_from(index: &[u8], at: usize) -> Result<CuVector<'_>, BadIndex>
     requires { at < 2 ^ 33 }
@@ -96,36 +96,36 @@ fn vector_from(index: &[u8], at: usize) -> Result<CuVector<'_>, BadIndex>
     Ok(CuVector::new(&index[at + 4..at + 4 + 4 * count]))
 }
 
-/// What stands in a slot, sought by a name.
-#[tactic(auto, unfolding(gdb_index_format::specs::Probe::look_in))]
-fn look_into<'a>(index: &'a [u8], name: &[u8], parts: Parts, slot: usize) -> Look<'a>
+/// Reads a slot for a name.
+#[tactic(auto, unfolding(gdb_index_format::specs::Probe::step_in))]
+fn probe_slot<'a>(index: &'a [u8], name: &[u8], parts: Parts, slot: usize) -> ProbeStep<'a>
     requires parts { ArePartsOf index.now parts }
     requires within { slot < parts.slots }
-    ensures { seen_look result ≡ look_in index.now name.now slot }
+    ensures { seen_step result ≡ step_in index.now name.now slot }
 {
     let at = parts.table + 8 * slot;
     let name_offset = read_u32(index, at) as usize;
     let vector_offset = read_u32(index, at + 4) as usize;
     if name_offset == 0 && vector_offset == 0 {
-        return Look::Ends(Ok(None));
+        return ProbeStep::Ends(Ok(None));
     }
     match name_from(index, parts.pool + name_offset) {
-        None => Look::Ends(Err(BadIndex::NameOutside)),
-        Some(stored) if stored == name => Look::Ends(vector_from(
+        None => ProbeStep::Ends(Err(BadIndex::NameOutside)),
+        Some(stored) if stored == name => ProbeStep::Ends(vector_from(
             index,
             parts.pool + vector_offset,
         ).map(Some)),
-        Some(_) => Look::Passes,
+        Some(_) => ProbeStep::Passes,
     }
 }
 
-/// What an index says of a name: its words, or None where it does not hold the name. Names are compared byte
-/// by byte. Fewer than 28 bytes hold no name. Each slot that is looked at is a step; there are at most as many
-/// as the index has slots.
+/// Returns the CU vector of a name, or None where the index does not hold the name. Names are compared byte by byte.
+/// Fewer than 28 bytes hold no name. Each slot that the probe reads is one step; there are at most as many steps as
+/// slots. The lookup allocates nothing.
 ///
-/// `BadIndex` is the first of these that applies: `Version`, `Offsets` and `Slots` where the index as a whole
-/// is not read; `NameOutside` where a slot that is looked at names bytes that no zero byte ends;
-/// `VectorOutside` where the vector of the name leaves the index.
+/// The error is the first of these that applies: `Version`, `Offsets` and `Slots` for the index as a whole;
+/// `NameOutside` where a slot that the probe reads has a name with no zero byte before the end of the index;
+/// `VectorOutside` where the CU vector of the name is truncated.
 #[tactic(auto, unfolding(gdb_index_format::specs::Probe::probe, gdb_index_format::specs::Probe::probe_from))]
 pub fn lookup<'a, L: Ledger>(
     index: &'a [u8],
@@ -133,21 +133,21 @@ pub fn lookup<'a, L: Ledger>(
     steps: &mut Steps<L>,
 ) -> Result<Option<CuVector<'a>>, BadIndex>
     ensures answer { result ≡ (probe index.now name.now).answer }
-    ensures looks { steps.new ≡ steps.old + (probe index.now name.now).looks }
-    ensures few { (probe index.now name.now).looks ≤ slot_count index.now }
+    ensures counted { steps.new ≡ steps.old + (probe index.now name.now).steps }
+    ensures few { (probe index.now name.now).steps ≤ slot_count index.now }
 {
     if index.len() < HEADER_LEN as usize {
         return Ok(None);
     }
     let parts = parts_of(index)?;
     let hash = gdb_hash(name);
-    for look in 0..parts.slots {
+    for step in 0..parts.slots {
         steps.tick();
-        if let Look::Ends(answer) = look_into(
+        if let ProbeStep::Ends(answer) = probe_slot(
             index,
             name,
             parts,
-            slot_at(parts.slots, hash, look),
+            slot_at(parts.slots, hash, step),
         ) {
             return answer;
         }

@@ -1,4 +1,4 @@
-//! How many bytes an index has (GDB manual, "Index Section Format"), before it is written.
+//! The size of an index in bytes (GDB manual, "Index Section Format"), before it is written.
 
 ghost use Rattle.std.specs.Prelude.{◌≡◌, ◌<◌, ◌≤◌, ◌^◌, MatchResult};
 ghost use Rattle.gdb_index_format.specs.Slots.{IsSlotCount};
@@ -7,27 +7,27 @@ ghost use Rattle.gdb_index.specs.Size.{IsIndexSize, IsCountable, IsTooLarge, Are
 use crate::version::{HEADER_LEN, INDEX_VERSION, SHORTCUTS_LEN};
 use thiserror::Error;
 
-/// What the size of an index depends on.
+/// The counts that the size of an index depends on.
 #[derive(Clone, Copy, Debug, PartialEq, Eq)]
 pub struct IndexCounts {
-    /// The units.
+    /// The number of units.
     pub units: u128,
-    /// The sections that are placed, for each of which the address area has room.
+    /// The number of placed sections, for each of which the address area has room.
     pub placed: u128,
-    /// The different names.
+    /// The number of different names.
     pub names: u128,
-    /// The words of all names.
+    /// The number of elements of all CU vectors.
     pub words: u128,
-    /// The bytes of all names, each with the zero byte that ends it.
+    /// The size of all names in bytes, each with its zero byte.
     pub name_bytes: u128,
 }
 
-/// An index of so many bytes is larger than its offsets can count: above 4,294,967,295.
+/// The size of an index in bytes, above 4,294,967,295: offsets of four bytes cannot hold it.
 #[derive(Clone, Copy, Debug, PartialEq, Eq, Error)]
 #[error("an index of {0} bytes is larger than its offsets can count")]
 pub struct IndexTooLarge(pub u128);
 
-/// How many slots the hash table of so many names has.
+/// Returns the slot count of the symbol hash table of so many names.
 fn slots_for(names: u128) -> u128
     requires { names < 2 ^ 120 }
     ensures counted { IsSlotCount names result }
@@ -39,8 +39,7 @@ fn slots_for(names: u128) -> u128
     (names * 4 / 3 + 1).next_power_of_two()
 }
 
-/// How many bytes an index of these counts has, 0 where there is no unit. Each count has to be below
-/// 2^120.
+/// Returns the size in bytes of an index of these counts, 0 where there is no unit. Requires each count below 2^120.
 pub fn index_size(counts: &IndexCounts) -> u128
     requires { AreSmall counts.now }
     ensures { IsIndexSize INDEX_VERSION counts.now result }
@@ -58,8 +57,8 @@ pub fn index_size(counts: &IndexCounts) -> u128
         + counts.name_bytes
 }
 
-/// How many bytes an index of these counts has, or `IndexTooLarge` with that number exactly where it is above
-/// 4,294,967,295. Each count has to be below 2^120.
+/// Returns the size in bytes of an index of these counts, or `IndexTooLarge` with that size exactly where it is above
+/// 4,294,967,295. Requires each count below 2^120.
 pub fn checked_index_size(counts: &IndexCounts) -> Result<u32, IndexTooLarge>
     requires { AreSmall counts.now }
     ensures { MatchResult result (IsCountable INDEX_VERSION counts.now) (IsTooLarge INDEX_VERSION counts.now) }

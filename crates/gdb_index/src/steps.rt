@@ -1,11 +1,11 @@
-//! A count of looks that takes no bytes when a program runs.
+//! A count of probe steps that takes no bytes when a program runs.
 
 ghost use Rattle.std.specs.Prelude.{◌≡◌, ◌+◌, ◌<◌};
 
 use std::marker::Model;
 use std::sync::ledger::{Blank, Book, Ledger, Share};
 
-/// How many slots look-ups have looked at. Contracts see it as that number, and only a look-up raises it.
+/// The number of probe steps that lookups have taken. Contracts see it as that number, and only a lookup raises it.
 #[derive(Drop)]
 pub struct Steps<L: Ledger> {
     book: Book<L>,
@@ -23,7 +23,7 @@ impl<L: Ledger> Model for Steps<L> {
 }
 
 impl<L: Ledger> Steps<L> {
-    /// No looks yet, counted in the ledger that the blank names.
+    /// Starts a count of 0, in the ledger that the blank names.
     pub fn new(blank: Blank) -> Self
         requires name { blank.name ≡ L.name }
         requires parts { blank.parts ≡ L.parts }
@@ -34,7 +34,7 @@ impl<L: Ledger> Steps<L> {
         Steps { book, share }
     }
 
-    /// One look more.
+    /// Counts one step.
     pub(crate) fn tick(&mut self)
         ensures { self.new ≡ self.old + 1 }
     {

@@ -1,9 +1,9 @@
-//! The hash table of an index (GDB manual, "Index Section Format": the symbol table) while it is filled.
+//! The symbol hash table of an index (GDB manual, "Index Section Format": the symbol table) while it is filled.
 
 ghost use Rattle.std.specs.Prelude.{◌≡◌, ◌↔◌, ℕ, ◌+◌, ◌*◌, ◌<◌, ◌≤◌, ◌^◌, IsTrue, length};
 ghost use Rattle.std.specs.Int.{IsPowerOfTwo};
 ghost use Rattle.gdb_index_format.specs.Slots.{slot_of};
-ghost use Rattle.gdb_index.specs.Table.{IsFree, IsFirstFree, HasFreeSlot, with_slot};
+ghost use Rattle.gdb_index.specs.steps.FreeSlots.{IsFree, IsFirstFree, HasFreeSlot, with_slot};
 
 use elf_words::read_u32;
 
@@ -23,20 +23,20 @@ fn put_slot(table: &mut [u8], slot: usize, name: u32, vector: u32)
     table[at + 4..at + 8].copy_from_slice(&vector.to_le_bytes());
 }
 
-/// The slot of look `look` of a probe.
-pub(crate) fn slot_at(slots: usize, hash: u32, look: usize) -> usize
+/// Returns the slot that step `step` of a probe reads.
+pub(crate) fn slot_at(slots: usize, hash: u32, step: usize) -> usize
     requires some { 0 < slots }
     requires table { slots < 2 ^ 32 }
-    requires within { look < slots }
-    ensures is { result ≡ slot_of slots hash look }
+    requires within { step < slots }
+    ensures is { result ≡ slot_of slots hash step }
     ensures below { result < slots }
 {
-    let step = u64::from(hash.wrapping_mul(17)) % slots as u64 | 1;
-    ((u64::from(hash) + look as u64 * step) % slots as u64) as usize
+    let step_size = u64::from(hash.wrapping_mul(17)) % slots as u64 | 1;
+    ((u64::from(hash) + step as u64 * step_size) % slots as u64) as usize
 }
 
-/// Puts a name and its vector, by their places in the pool, into the first free slot of the name's probe, whose first
-/// looks are known to meet taken slots. Answers how many looks met such slots.
+/// Puts a name and its CU vector, by their offsets in the constant pool, into the first free slot of the name's probe,
+/// whose first `passed` steps are known to meet taken slots. Returns the number of steps that met taken slots.
 pub(crate) fn insert_name(
     table: &mut [u8],
     slots: usize,
@@ -47,14 +47,14 @@ pub(crate) fn insert_name(
 ) -> usize
     requires room { HasFreeSlot table.old slots }
     requires table { slots < 2 ^ 32 }
-    requires passed { (look : ℕ) → look < passed → IsFree table.old (slot_of slots hash look) → ⊥ }
+    requires passed { (step : ℕ) → step < passed → IsFree table.old (slot_of slots hash step) → ⊥ }
     ensures first { IsFirstFree table.old slots hash result }
     ensures puts { table.new ≡ with_slot table.old (slot_of slots hash result) (record { name = name; vector = vector }) }
 {
-    let mut look = passed;
-    while !is_free(table, slot_at(slots, hash, look)) {
-        look += 1;
+    let mut step = passed;
+    while !is_free(table, slot_at(slots, hash, step)) {
+        step += 1;
     }
-    put_slot(table, slot_at(slots, hash, look), name, vector);
-    look
+    put_slot(table, slot_at(slots, hash, step), name, vector);
+    step
 }

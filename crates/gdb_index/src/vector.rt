@@ -1,4 +1,4 @@
-//! The vector of a name as it stands in an index (GDB manual, "Index Section Format").
+//! The CU vector of a name as it stands in an index (GDB manual, "Index Section Format").
 
 ghost use Rattle.std.specs.Prelude.{◌≡◌, ℕ, ◌%◌, length, slice_get};
 ghost use Rattle.gdb_index.specs.Vector.{words_in};
@@ -6,7 +6,7 @@ ghost use Rattle.gdb_index.specs.Vector.{words_in};
 use elf_words::read_u32;
 use std::marker::Model;
 
-/// The words of a name, which stay in the index and are read from there. Contracts see them as a list.
+/// The elements of a CU vector, which stay in the index and are read from there. Contracts see them as a list.
 #[derive(Debug, Drop)]
 pub struct CuVector<'a> {
     bytes: &'a [u8],
@@ -24,7 +24,7 @@ impl<'a> Model for CuVector<'a> {
 }
 
 impl<'a> CuVector<'a> {
-    /// The words that these bytes spell, four for each.
+    /// Makes the vector of the elements that these bytes hold, four bytes each.
     pub(crate) fn new(bytes: &'a [u8]) -> Self
         requires { length bytes.now % 4 ≡ 0 }
         ensures { result ≡ words_in bytes.now }
@@ -32,20 +32,20 @@ impl<'a> CuVector<'a> {
         CuVector { bytes }
     }
 
-    /// How many words there are.
+    /// Returns the number of elements.
     pub fn len(&self) -> usize
         ensures { result ≡ length self.now }
     {
         self.bytes.len() / 4
     }
 
-    /// The word at a place, from 0, or None where there are no more than so many words.
-    pub fn get(&self, place: usize) -> Option<u32>
-        ensures { result ≡ slice_get self.now place }
+    /// Returns the element at an index, from 0, or None from the number of elements on.
+    pub fn get(&self, index: usize) -> Option<u32>
+        ensures { result ≡ slice_get self.now index }
     {
         let count = self.bytes.len() / 4;
-        if place < count {
-            Some(read_u32(self.bytes, 4 * place))
+        if index < count {
+            Some(read_u32(self.bytes, 4 * index))
         } else {
             None
         }

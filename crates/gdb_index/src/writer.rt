@@ -1,15 +1,14 @@
-//! Writes `.gdb_index` (GDB manual, "Index Section Format"), into a buffer of the size that was computed
-//! before.
+//! Writes `.gdb_index` (GDB manual, "Index Section Format") into a buffer of the computed size.
 
 ghost use Rattle.std.specs.Prelude.{◌≡◌, ℕ, ◌+◌, ◌*◌, ◌<◌, ◌≤◌, ◌^◌, List, length};
 ghost use Rattle.gdb_index_format.specs.Slots.{IsSlotCount};
 ghost use Rattle.gdb_index_format.specs.Named.{all_named, AreNamesOf, AnswersAll};
 ghost use Rattle.gdb_index_format.specs.Published.{Pair};
 ghost use Rattle.gdb_index_format.specs.Units.{index_units};
-ghost use Rattle.gdb_index.specs.Writes.{Extends};
-ghost use Rattle.gdb_index.specs.Filled.{ExtendsByTable};
+ghost use Rattle.gdb_index.specs.steps.Writes.{Extends};
+ghost use Rattle.gdb_index.specs.steps.FilledBytes.{ExtendsByTable};
 ghost use Rattle.gdb_index.specs.Pool.{vectors_len, names_len};
-ghost use Rattle.gdb_index.specs.Layout.{u32s_bytes, header, pool_place, IsLayoutOf};
+ghost use Rattle.gdb_index.specs.Layout.{u32s_bytes, header, pool_offset, IsLayoutOf};
 ghost use Rattle.gdb_index.specs.Size.{IsIndexSize, scan_counts};
 ghost use Rattle.gdb_index.specs.Answers.{AnswersFor};
 
@@ -24,9 +23,9 @@ use crate::writing::{
 };
 use gdb_index_format::{AddressEntry, NameWords};
 
-/// Writes the version and the offsets of the parts. The list of type units is empty.
+/// Writes the version and the offsets of the parts. The types CU list is empty.
 fn append_header(buf: &mut [u8], units: usize, addresses: usize, slots: usize) -> usize
-    requires room { pool_place INDEX_VERSION units addresses slots ≤ length buf.old }
+    requires room { pool_offset INDEX_VERSION units addresses slots ≤ length buf.old }
     requires small { length buf.old < 2 ^ 32 }
     ensures extends { Extends buf.old buf.new 0 (u32s_bytes (header INDEX_VERSION units addresses slots)) }
     ensures end { result ≡ 28 }
@@ -46,8 +45,8 @@ fn append_header(buf: &mut [u8], units: usize, addresses: usize, slots: usize) -
     append_u32s(buf, 0, &offsets)
 }
 
-/// Writes the hash table, in which each name stands in the first slot of its probe that no earlier name
-/// holds. Bytes behind it, where the pool will stand, are written over.
+/// Writes the symbol hash table, in which each name stands in the first slot of its probe that no earlier name holds.
+/// Writes over bytes after it, where the constant pool will stand.
 fn append_table(buf: &mut [u8], at: usize, slots: usize, names: &[NameWords<'_>]) -> usize
     requires room { at + 8 * slots ≤ length buf.old }
     requires counted { IsSlotCount (length names.now) slots }
@@ -59,16 +58,16 @@ fn append_table(buf: &mut [u8], at: usize, slots: usize, names: &[NameWords<'_>]
     let end = append_zeros(buf, at, 8 * slots);
     let vectors = vectors_len_of_all(names);
     if slots > 0 {
-        let (front, behind) = buf.split_at_mut(end);
-        let room = behind.len().min(PASSED_LEN * slots);
-        fill_table(&mut front[at..], &mut behind[..room], slots, names, vectors);
+        let (front, after) = buf.split_at_mut(end);
+        let room = after.len().min(PASSED_LEN * slots);
+        fill_table(&mut front[at..], &mut after[..room], slots, names, vectors);
     }
     end
 }
 
-/// Writes the index of a scan result with these address entries into all of `buf`, whose length has to be
-/// the scan result's size: at least 1 and below 2^32. There may be at most as many address entries as there
-/// are placed sections; where there are fewer, the bytes that this saves are zeros at the end.
+/// Writes the index of a scan result with these address entries into all of `buf`. Requires the length of `buf` to be
+/// the size of the index, at least 1 and below 2^32, and at most as many address entries as placed sections; where there
+/// are fewer, the bytes saved are zeros at the end. Allocates nothing and cannot fail.
 pub fn write_gdb_index(buf: &mut [u8], scan: &GdbIndexScanResult<'_>, addresses: &[AddressEntry])
     requires size { IsIndexSize INDEX_VERSION (scan_counts scan.now) (length buf.old) }
     requires some { 1 ≤ length buf.old }

@@ -1,11 +1,11 @@
-//! Writes numbers, units, addresses, vectors and names into a buffer, one behind another. Each function
-//! takes the place at which it begins and answers the place behind what it wrote.
+//! Writes numbers, units, address entries, CU vectors and names into a buffer, one after another. Each function takes
+//! the offset at which it begins and returns the offset after what it wrote.
 
 ghost use Rattle.std.specs.Prelude.{◌≡◌, ℕ, ◌+◌, ◌*◌, ◌<◌, ◌≤◌, ◌^◌, [], ◌∷◌, ◌++◌, length, replicate};
 ghost use Rattle.std.specs.List.{flat_map};
 ghost use Rattle.std.specs.Int.{w32, w64, to_le_bytes};
 ghost use Rattle.gdb_index_format.specs.Named.{named as named_of, all_named};
-ghost use Rattle.gdb_index.specs.Writes.{Extends};
+ghost use Rattle.gdb_index.specs.steps.Writes.{Extends};
 ghost use Rattle.gdb_index.specs.Pool.{vector_len, vectors_len, names_len};
 ghost use Rattle.gdb_index.specs.Layout.{unit_bytes, address_bytes, vector_bytes, name_bytes, u32s_bytes, AreUnits};
 
@@ -63,11 +63,11 @@ pub(crate) fn append_units(buf: &mut [u8], at: usize, units: &[CuBoundary]) -> u
     ensures end { result ≡ at + 16 * length units.now }
     ensures fit { AreUnits units.now }
 {
-    let mut place = at;
+    let mut offset = at;
     for unit in units {
-        place = append_unit(buf, place, *unit);
+        offset = append_unit(buf, offset, *unit);
     }
-    place
+    offset
 }
 
 fn append_address(buf: &mut [u8], at: usize, entry: AddressEntry) -> usize
@@ -85,11 +85,11 @@ pub(crate) fn append_addresses(buf: &mut [u8], at: usize, addresses: &[AddressEn
     ensures extends { Extends buf.old buf.new at (flat_map address_bytes addresses.now) }
     ensures end { result ≡ at + 20 * length addresses.now }
 {
-    let mut place = at;
+    let mut offset = at;
     for entry in addresses {
-        place = append_address(buf, place, *entry);
+        offset = append_address(buf, offset, *entry);
     }
-    place
+    offset
 }
 
 pub(crate) fn append_u32s(buf: &mut [u8], at: usize, numbers: &[u32]) -> usize
@@ -97,11 +97,11 @@ pub(crate) fn append_u32s(buf: &mut [u8], at: usize, numbers: &[u32]) -> usize
     ensures extends { Extends buf.old buf.new at (u32s_bytes numbers.now) }
     ensures end { result ≡ at + 4 * length numbers.now }
 {
-    let mut place = at;
+    let mut offset = at;
     for number in numbers {
-        place = append_u32(buf, place, *number);
+        offset = append_u32(buf, offset, *number);
     }
-    place
+    offset
 }
 
 fn append_vector(buf: &mut [u8], at: usize, named: &NameWords<'_>) -> usize
@@ -120,11 +120,11 @@ pub(crate) fn append_vectors(buf: &mut [u8], at: usize, names: &[NameWords<'_>])
     ensures extends { Extends buf.old buf.new at (flat_map vector_bytes (all_named names.now)) }
     ensures end { result ≡ at + vectors_len (all_named names.now) }
 {
-    let mut place = at;
+    let mut offset = at;
     for named in names {
-        place = append_vector(buf, place, named);
+        offset = append_vector(buf, offset, named);
     }
-    place
+    offset
 }
 
 fn append_name(buf: &mut [u8], at: usize, name: &[u8]) -> usize
@@ -141,9 +141,9 @@ pub(crate) fn append_names(buf: &mut [u8], at: usize, names: &[NameWords<'_>]) -
     ensures extends { Extends buf.old buf.new at (flat_map name_bytes (all_named names.now)) }
     ensures end { result ≡ at + names_len (all_named names.now) }
 {
-    let mut place = at;
+    let mut offset = at;
     for named in names {
-        place = append_name(buf, place, named.name);
+        offset = append_name(buf, offset, named.name);
     }
-    place
+    offset
 }

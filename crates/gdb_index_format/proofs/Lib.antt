@@ -6,3 +6,4 @@ pub mod WordLists
 pub mod UnitPlaces
 pub mod ObjectLists
 pub mod SmallLists
+pub mod NameLists

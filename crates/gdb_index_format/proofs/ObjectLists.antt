@@ -5,8 +5,8 @@ use Rattle.elf_format.specs.Section.{section_bytes}
 use Rattle.gdb_index_format.specs.declared.unit.CuBoundary.{CuBoundary}
 use Rattle.gdb_index_format.specs.Units.{IsUnitList}
 use Rattle.gdb_index_format.specs.Names.{NameSet, IsSetList}
-use Rattle.gdb_index_format.specs.Published.{Object}
-use Rattle.gdb_index_format.specs.Objects.{pubnames_sections, info_bytes, AreUnitsIn, AreSetsIn, AreSetsOfSections, AreSetsBeside, IsObjectOf, AreObjectsOf, ObjectsAreOne}
+use Rattle.gdb_index_format.specs.Published.{Object, unit_lists}
+use Rattle.gdb_index_format.specs.Objects.{pubnames_sections, info_bytes, AreUnitsIn, AreSetsIn, AreSetsOfSections, AreSetsBeside, AreUnitsOf, IsObjectOf, AreObjectsOf, ObjectsAreOne}
 use Rattle.gdb_index_format.proofs.UnitLists.{one_list}
 use Rattle.gdb_index_format.proofs.SetLists.{one_set_list}
 
@@ -44,5 +44,19 @@ one_list_of_objects c (file ∷ files) [] ps p q = absurd p
 one_list_of_objects c (file ∷ files) (o ∷ os) [] p q = absurd q
 one_list_of_objects c (file ∷ files) (o ∷ os) (x ∷ xs) p q = ap (λ y. y ∷ os) (one_object c file o x p.0 q.0) ∙ ap (λ ys. x ∷ ys) (one_list_of_objects c files os xs p.1 q.1)
 
+pub one_unit_lists : (c : Class) (files : List (List ℕ)) (uss vss : List (List CuBoundary)) → AreUnitsOf c files uss → AreUnitsOf c files vss → uss ≡ vss
+one_unit_lists c [] [] [] p q = refl
+one_unit_lists c [] [] (x ∷ xs) p q = absurd q
+one_unit_lists c [] (us ∷ uss) vss p q = absurd p
+one_unit_lists c (file ∷ files) [] vss p q = absurd p
+one_unit_lists c (file ∷ files) (us ∷ uss) [] p q = absurd q
+one_unit_lists c (file ∷ files) (us ∷ uss) (vs ∷ vss) p q = ap (λ y. y ∷ uss) (one_units (info_bytes c file) us vs p.0 q.0) ∙ ap (λ ys. vs ∷ ys) (one_unit_lists c files uss vss p.1 q.1)
+
+pub units_of_objects : (c : Class) (files : List (List ℕ)) (os : List Object) → AreObjectsOf c files os → AreUnitsOf c files (unit_lists os)
+units_of_objects c [] [] h = tt
+units_of_objects c [] (o ∷ os) h = absurd h
+units_of_objects c (file ∷ files) [] h = absurd h
+units_of_objects c (file ∷ files) (o ∷ os) h = (h.0.units, units_of_objects c files os h.1)
+
 pub objects_are_one_lem : ObjectsAreOne
-objects_are_one_lem = record { one_object = one_object; one_list = one_list_of_objects }
+objects_are_one_lem = record { one_object = one_object; one_list = one_list_of_objects; one_units = one_unit_lists; units = units_of_objects }

@@ -108,7 +108,7 @@ same_length Dwarf64 Dwarf64 m n x y p q e =
 same_set : (s t : NameSet) → s.unit ≡ t.unit → s.entries ≡ t.entries → s ≡ t
 same_set s t p q = ap (λ (n : ℕ). record { unit = n; entries = s.entries }) p ∙ ap (λ (es : List Entry). record { unit = t.unit; entries = es }) q
 
--- what stands behind the initial length
+-- what follows the initial length
 abbrev pub body : DwarfFormat → ℕ → ℕ → List ℕ → List ℕ → List ℕ
 body format unit len last x = to_le_bytes w16 2 ++ (number format unit ++ (number format len ++ (last ++ x)))
 

@@ -1,4 +1,4 @@
--- Bytes have at most one list of units, and fail at most at one place by one cause.
+-- Bytes have at most one list of units, and fail at most at one offset by one cause.
 use Rattle.std.proofs.Common.{◌≡◌, ℕ, zero, suc, ◌+◌, ◌<◌, ◌≤◌, List, [], ◌∷◌, length, take, get_or, refl, sym, ap, subst, ◌∙◌, arith, ◌≢◌, ◌⊎◌, inl, inr}
 use Rattle.std.specs.List.{All}
 use Rattle.std.proofs.lemmas.List.Sums.{sum_by-cons}
@@ -8,7 +8,7 @@ use Rattle.gdb_index_format.specs.declared.unit.UnitFault.TheVariants.{Truncated
 use Rattle.elf_format.specs.Bytes.{u32_at}
 use Rattle.gdb_index_format.specs.Units.{unit_length, total_length, IsUnitFront, IsUnitList, IsFault, FailsAt}
 
--- the units tile the bytes from a place on
+-- the units tile the bytes from an offset on
 abbrev pub Tiles : List ℕ → ℕ → List CuBoundary → Type 0
 Tiles b at [] = Unit {0}
 Tiles b at (u ∷ us) = (u.offset ≡ at) × (u.length ≡ unit_length b at) × Tiles b (at + u.length) us
@@ -94,8 +94,8 @@ no_fault b at InvalidLength cause within = omega (arith, cause.1)
 
 pub no_list : (b : List ℕ) (us : List CuBoundary) (at : ℕ) (fault : UnitFault) → IsUnitList b us → FailsAt b at fault → ⊥
 no_list b us at fault p q =
-    let ends : 0 + total_length q.units + unit_length b (0 + total_length q.units) ≤ length b = within_at b 0 us q.units (Tiles-from_front b us p.front) (Tiles-from_front b q.units q.front) (omega (arith, p.front.within)) (omega (arith, p.rest)) (omega (arith, q.room, q.place)) in
-    let place : 0 + total_length q.units ≡ at = omega (arith, q.place) in
+    let ends : 0 + total_length q.units + unit_length b (0 + total_length q.units) ≤ length b = within_at b 0 us q.units (Tiles-from_front b us p.front) (Tiles-from_front b q.units q.front) (omega (arith, p.front.within)) (omega (arith, p.rest)) (omega (arith, q.room, q.ends)) in
+    let place : 0 + total_length q.units ≡ at = omega (arith, q.ends) in
     no_fault b at fault q.cause (subst (λ n. n + unit_length b n ≤ length b) place ends)
 
 -- tilings that both end where the next unit would leave the bytes are the same
@@ -121,12 +121,12 @@ beyond b at Truncated cause = omega (arith, twelve b at cause.0, cause.1)
 beyond b at InvalidLength cause = cause.1
 
 one_front : (b : List ℕ) (p q : ℕ) (e f : UnitFault) (x : FailsAt b p e) (y : FailsAt b q f) → x.units ≡ y.units
-one_front b p q e f x y = one_failing b 0 x.units y.units (Tiles-from_front b x.units x.front) (Tiles-from_front b y.units y.front) (omega (arith, x.front.within)) (omega (arith, y.front.within)) (ends p x.units x.place (beyond b p e x.cause)) (ends q y.units y.place (beyond b q f y.cause)) where
+one_front b p q e f x y = one_failing b 0 x.units y.units (Tiles-from_front b x.units x.front) (Tiles-from_front b y.units y.front) (omega (arith, x.front.within)) (omega (arith, y.front.within)) (ends p x.units x.ends (beyond b p e x.cause)) (ends q y.units y.ends (beyond b q f y.cause)) where
   ends : (n : ℕ) (us : List CuBoundary) → total_length us ≡ n → length b < n + unit_length b n → length b < 0 + total_length us + unit_length b (0 + total_length us)
   ends n us is h = let same : n ≡ 0 + total_length us = omega (arith, is) in subst (λ k. length b < k + unit_length b k) same h
 
 pub one_place : (b : List ℕ) (p q : ℕ) (e f : UnitFault) → FailsAt b p e → FailsAt b q f → p ≡ q
-one_place b p q e f x y = sym x.place ∙ ap total_length (one_front b p q e f x y) ∙ y.place
+one_place b p q e f x y = sym x.ends ∙ ap total_length (one_front b p q e f x y) ∙ y.ends
 
 same_cause : (b : List ℕ) (at : ℕ) (e f : UnitFault) → IsFault b at e → IsFault b at f → e ≡ f
 same_cause b at Truncated Truncated p q = refl

@@ -68,7 +68,7 @@ relocation_fault c is_dynamic file = fault_in c is_dynamic file (unit_relocation
 abbrev pub assigns : Class → Bool → List ℕ → List CuBoundary → ℕ → Crel → Bool
 assigns c is_dynamic file us section r = is_in section (section_of_relocation c is_dynamic file r.symbol) && is_some (unit_holding us r.offset)
 
--- the unit of a section, by its place among the units of its object: that of the first relocation that assigns it
+-- the unit of a section, by its index among the units of its object: that of the first relocation that assigns it
 abbrev pub assigned_unit : Class → Bool → List ℕ → List CuBoundary → ℕ → Result (List Crel) ElfError → Option ℕ
 assigned_unit c is_dynamic file us section (Err e) = None
 assigned_unit c is_dynamic file us section (Ok records) = option_and_then (λ r. unit_holding us r.offset) (find (assigns c is_dynamic file us section) records)

@@ -12,7 +12,7 @@ pub record Entry : Type 0 where
   pub name : List ℕ
   pub flag : ℕ
 
--- the names of one unit, which is named by its place in `.debug_info`
+-- the names of one unit, which is named by its offset in `.debug_info`
 pub record NameSet : Type 0 where
   pub unit : ℕ
   pub entries : List Entry
@@ -43,7 +43,7 @@ length_limit Dwarf64 = 2 ^ 64
 abbrev pub IsClosed : DwarfFormat → List ℕ → Type 0
 IsClosed format bytes = (bytes ≡ []) ⊎ ((skipped : List ℕ) × (bytes ≡ replicate (width format) 0 ++ skipped))
 
--- One entry, with what follows it: an offset that is not 0, a flag byte, and a name with a zero byte behind it.
+-- One entry, with what follows it: an offset that is not 0, a flag byte, and a name with a zero byte after it.
 pub record IsEntry (format : DwarfFormat) (bytes : List ℕ) (e : Entry) (rest : List ℕ) : Type 0 where
   pub offset : ℕ
   pub some : 0 < offset
@@ -67,7 +67,7 @@ pub record IsSet (bytes : List ℕ) (set : NameSet) : Type 0 where
   pub fits : 2 + 2 * width format + length last < length_limit format
   pub bytes_are : bytes ≡ initial_length format (2 + 2 * width format + length last) ++ to_le_bytes w16 2 ++ number format set.unit ++ number format unit_len ++ last
 
--- The bytes are these sets, one behind another.
+-- The bytes are these sets, one after another.
 abbrev pub IsSetList : List ℕ → List NameSet → Type 0
 IsSetList bytes [] = bytes ≡ []
 IsSetList bytes (s ∷ ss) = (front : List ℕ) × (rest : List ℕ) × (bytes ≡ front ++ rest) × IsSet front s × IsSetList rest ss

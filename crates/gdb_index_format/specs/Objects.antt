@@ -8,7 +8,7 @@ use Rattle.elf_format.specs.Section.{sections, section_bytes, section_name, sect
 use Rattle.gdb_index_format.specs.declared.unit.CuBoundary.{CuBoundary}
 use Rattle.gdb_index_format.specs.Units.{IsUnitList}
 use Rattle.gdb_index_format.specs.Names.{NameSet, IsSetList}
-use Rattle.gdb_index_format.specs.Published.{Object}
+use Rattle.gdb_index_format.specs.Published.{Object, unit_lists}
 
 -- the section that holds an object's units: the first of its name
 abbrev pub info_section : Class → List ℕ → Option ℕ
@@ -47,7 +47,7 @@ pub record AreSetsIn (held : Option (List ℕ)) (ss : List NameSet) : Type 0 whe
   pub there : held ≡ Some bytes
   pub list : IsSetList bytes ss
 
--- the sets of some sections, one section behind another
+-- the sets of some sections, one section after another
 abbrev pub AreSetsOfSections : Class → List ℕ → List (ℕ × List ℕ) → List NameSet → Type 0
 AreSetsOfSections c file [] ss = ss ≡ []
 AreSetsOfSections c file (s ∷ more) ss =
@@ -62,6 +62,13 @@ abbrev pub AreSetsBeside : Class → List ℕ → List CuBoundary → List NameS
 AreSetsBeside c file [] ss = ss ≡ []
 AreSetsBeside c file (u ∷ us) ss = IsSetsOf c file ss
 
+-- the units of each of some objects
+abbrev pub AreUnitsOf : Class → List (List ℕ) → List (List CuBoundary) → Type 0
+AreUnitsOf c [] [] = Unit {0}
+AreUnitsOf c [] (us ∷ uss) = ⊥
+AreUnitsOf c (file ∷ files) [] = ⊥
+AreUnitsOf c (file ∷ files) (us ∷ uss) = IsUnitsOf c file us × AreUnitsOf c files uss
+
 -- What an object holds.
 pub record IsObjectOf (c : Class) (file : List ℕ) (o : Object) : Type 0 where
   pub units : IsUnitsOf c file o.units
@@ -74,10 +81,13 @@ AreObjectsOf c [] (o ∷ os) = ⊥
 AreObjectsOf c (file ∷ files) [] = ⊥
 AreObjectsOf c (file ∷ files) (o ∷ os) = IsObjectOf c file o × AreObjectsOf c files os
 
--- An object holds one list of units and one list of sets, and so do several.
+-- An object holds one list of units and one list of sets, and so do several objects; their units are those of the
+-- objects.
 pub record ObjectsAreOne : Type 0 where
   pub one_object : (c : Class) (file : List ℕ) (o p : Object) → IsObjectOf c file o → IsObjectOf c file p → o ≡ p
   pub one_list : (c : Class) (files : List (List ℕ)) (os ps : List Object) → AreObjectsOf c files os → AreObjectsOf c files ps → os ≡ ps
+  pub one_units : (c : Class) (files : List (List ℕ)) (uss vss : List (List CuBoundary)) → AreUnitsOf c files uss → AreUnitsOf c files vss → uss ≡ vss
+  pub units : (c : Class) (files : List (List ℕ)) (os : List Object) → AreObjectsOf c files os → AreUnitsOf c files (unit_lists os)
 
 abbrev pub is_index : ℕ → Option ℕ → Bool
 is_index index None = false

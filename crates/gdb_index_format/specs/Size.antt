@@ -5,7 +5,7 @@ use Rattle.gdb_index_format.specs.Version.{header_len, shortcut_len}
 use Rattle.gdb_index_format.specs.Slots.{IsSlotCount}
 use Rattle.gdb_index_format.specs.Published.{Object, units_of_all, published, first_names}
 
--- what the size depends on; each name counts among the bytes of names with a zero byte behind it
+-- what the size depends on; `name_bytes` counts each name with its zero byte; `words` are the elements of all CU vectors
 pub record Counts : Type 0 where
   pub units : ℕ
   pub placed : ℕ

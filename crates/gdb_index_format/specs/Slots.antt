@@ -1,4 +1,4 @@
--- The hash table of an index: how many slots it has, and at which slot each look of a probe is (GDB manual,
+-- The hash table of an index: how many slots it has, and which slot each step of a probe reads (GDB manual,
 -- "Index Section Format": the symbol table is an open addressed hash table whose size is a power of two).
 use Rattle.std.specs.Prelude.{◌≡◌, ℕ, zero, suc, ◌+◌, ◌*◌, ◌/◌, ◌%◌, ◌^◌, ◌<◌, ◌≤◌}
 use Rattle.std.specs.Int.{IsPowerOfTwo}
@@ -18,15 +18,15 @@ IsSlotCount (suc names) slots = IsLeastPower (4 * suc names / 3 + 1) slots
 abbrev pub with_lowest_bit : ℕ → ℕ
 with_lowest_bit n = n / 2 * 2 + 1
 
--- how far the looks of a probe are apart
-abbrev pub step_of : ℕ → ℕ → ℕ
-step_of slots hash = with_lowest_bit (hash * 17 % 4294967296 % slots)
+-- how many slots one step of a probe moves on (GDB manual: the step size)
+abbrev pub step_size : ℕ → ℕ → ℕ
+step_size slots hash = with_lowest_bit (hash * 17 % 4294967296 % slots)
 
--- the slot of look k, from 0
+-- the slot of step k, from 0
 unfoldable pub slot_of : ℕ → ℕ → ℕ → ℕ
-slot_of slots hash k = (hash + k * step_of slots hash) % slots
+slot_of slots hash k = (hash + k * step_size slots hash) % slots
 
--- what the looks of a probe go over: each slot below m, each at one look only
+-- the steps of a probe reach each slot below m, and each at one step only
 pub record ReachesEachOnce (m h t : ℕ) : Type 0 where
   pub reaches : (s : ℕ) → s < m → (k : ℕ) × (k < m) × ((h + k * t) % m ≡ s)
   pub once : (j k : ℕ) → j < m → k < m → (h + j * t) % m ≡ (h + k * t) % m → j ≡ k

@@ -1,16 +1,16 @@
-//! Why the bytes of an index are not read (GDB manual, "Index Section Format").
+//! The faults of an index (GDB manual, "Index Section Format").
 
-/// Why a look-up in an index is refused. The first that applies, in this order, is told.
+/// The fault for which a lookup refuses an index: the first that applies, in this order.
 #[derive(Clone, Copy, Debug, PartialEq, Eq)]
 pub enum BadIndex {
-    /// The version is none of those that are read.
+    /// The version is not 9.
     Version,
-    /// The parts do not follow one another behind the header and within the bytes.
+    /// The six offsets of the header do not ascend from the end of the header to the end of the bytes.
     Offsets,
-    /// The symbol table is no whole slots, or their number is neither 0 nor a power of two.
+    /// The symbol hash table is not a whole number of slots, or that number is neither 0 nor a power of two.
     Slots,
-    /// A slot that was looked at names bytes that no zero byte ends.
+    /// A slot that the probe reads has a name with no zero byte before the end of the index.
     NameOutside,
-    /// The vector of the name that was found leaves the bytes.
+    /// The CU vector of the name that was found is truncated.
     VectorOutside,
 }

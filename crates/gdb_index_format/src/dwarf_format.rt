@@ -1,6 +1,6 @@
-//! The two formats of DWARF (DWARF 5, 7.4), which a table of names shows by its initial length.
+//! The two formats of DWARF (DWARF 5, 7.4), which an initial length selects.
 
-/// How wide lengths and offsets are.
+/// The width of lengths and offsets.
 #[derive(Clone, Copy, Debug, PartialEq, Eq)]
 pub enum DwarfFormat {
     /// Four bytes.

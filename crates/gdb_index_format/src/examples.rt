@@ -1,4 +1,4 @@
-//! The definitions on small bytes: what they say was worked out by hand.
+//! The definitions on small inputs. The expected values were worked out by hand.
 
 ghost use Rattle.std.specs.Prelude.{◌≡◌, length, Some, None, Ok, Err, codes, replicate, take, [], ◌∷◌, ◌++◌};
 ghost use Rattle.elf_format.specs.Class.{class64};
@@ -18,24 +18,24 @@ pub fn one_name_is_found()
     ensures size { length index_of_main ≡ 81 }
     ensures units { index_units index_of_main ≡ record { offset = 0; length = 12 } ∷ [] }
     ensures hash { name_hash (codes "main") ≡ 4293691881 }
-    ensures found { probe index_of_main (codes "main") ≡ record { answer = Ok (Some (0x30000000 ∷ [])); looks = 1 } }
-    ensures absent { probe index_of_main (codes "m") ≡ record { answer = Ok None; looks = 1 } }
+    ensures found { probe index_of_main (codes "main") ≡ record { answer = Ok (Some (0x30000000 ∷ [])); steps = 1 } }
+    ensures absent { probe index_of_main (codes "m") ≡ record { answer = Ok None; steps = 1 } }
 {}
 
 /// Two names of one hash stand in slots of their own.
 pub fn two_names_are_found()
     ensures size { length index_of_two ≡ 110 }
-    ensures first { probe index_of_two (codes "main") ≡ record { answer = Ok (Some (0x30000000 ∷ [])); looks = 1 } }
-    ensures second { probe index_of_two (codes "MAIN") ≡ record { answer = Ok (Some (0x30000000 ∷ [])); looks = 2 } }
-    ensures absent { probe index_of_two (codes "Main") ≡ record { answer = Ok None; looks = 3 } }
+    ensures first { probe index_of_two (codes "main") ≡ record { answer = Ok (Some (0x30000000 ∷ [])); steps = 1 } }
+    ensures second { probe index_of_two (codes "MAIN") ≡ record { answer = Ok (Some (0x30000000 ∷ [])); steps = 2 } }
+    ensures absent { probe index_of_two (codes "Main") ≡ record { answer = Ok None; steps = 3 } }
 {}
 
 /// Faults of an index as a whole.
 pub fn faulty_indexes()
-    ensures short { probe (take 27 index_of_main) (codes "main") ≡ record { answer = Ok None; looks = 0 } }
-    ensures version { probe (index_header 7 28 28 28 28 28 28) [] ≡ record { answer = Err Version; looks = 0 } }
-    ensures offsets { probe (9 ∷ replicate 27 0) (codes "main") ≡ record { answer = Err Offsets; looks = 0 } }
-    ensures slots { probe (index_header 9 28 28 28 28 52 52 ++ replicate 24 0) [] ≡ record { answer = Err Slots; looks = 0 } }
+    ensures short { probe (take 27 index_of_main) (codes "main") ≡ record { answer = Ok None; steps = 0 } }
+    ensures version { probe (index_header 7 28 28 28 28 28 28) [] ≡ record { answer = Err Version; steps = 0 } }
+    ensures offsets { probe (9 ∷ replicate 27 0) (codes "main") ≡ record { answer = Err Offsets; steps = 0 } }
+    ensures slots { probe (index_header 9 28 28 28 28 52 52 ++ replicate 24 0) [] ≡ record { answer = Err Slots; steps = 0 } }
     ensures no_units { index_units (9 ∷ replicate 26 0) ≡ [] }
 {}
 

@@ -1,18 +1,19 @@
-//! The definitions have one answer each: laws over them, which no code is needed for.
+//! Laws over the definitions: each definition has one value. Each law is the contract of a function that does nothing.
 
 ghost use Rattle.gdb_index_format.specs.Slots.{EachSlotOnce};
 ghost use Rattle.gdb_index_format.specs.Units.{UnitsAreOne};
 ghost use Rattle.gdb_index_format.specs.Names.{SetsAreOne};
+ghost use Rattle.gdb_index_format.specs.Named.{PublishedNamesAreOne};
 ghost use Rattle.gdb_index_format.specs.Published.{UnitsOfAllRun, VectorsAreOne};
 ghost use Rattle.gdb_index_format.specs.Objects.{ObjectsAreOne};
 ghost use Rattle.gdb_index_format.specs.Size.{SizesAreOne};
 
-/// A probe looks at each slot, and at each only once.
+/// A probe steps at each slot, and at each only once.
 pub fn each_slot_once()
     ensures { EachSlotOnce }
 {}
 
-/// Bytes have one list of units, or fail at one place by one cause.
+/// Bytes have one list of units, or fail at one offset by one cause.
 pub fn units_are_one()
     ensures { UnitsAreOne }
 {}
@@ -22,7 +23,7 @@ pub fn sets_are_one()
     ensures { SetsAreOne }
 {}
 
-/// A name has one list of words.
+/// A name has one CU vector.
 pub fn words_are_one()
     ensures { VectorsAreOne }
 {}
@@ -30,6 +31,11 @@ pub fn words_are_one()
 /// Objects hold one list of units and one list of sets each.
 pub fn objects_are_one()
     ensures { ObjectsAreOne }
+{}
+
+/// Published pairs have one list of names with their CU vectors.
+pub fn published_names_are_one()
+    ensures { PublishedNamesAreOne }
 {}
 
 /// The units of all objects begin at running sums of their lengths.

@@ -1,7 +1,7 @@
-//! The `.gdb_index` format (GDB manual, "Index Section Format"), with the units of `.debug_info` (DWARF 5, 7.4
-//! and 7.5.1) and the sets of names of `.debug_gnu_pubnames` that an index is made of. The definitions stand
-//! in `specs/`; the plain types that they name, laws over them and examples of them stand here. What depends
-//! on the version of an index is said in `specs/Version.antt` alone.
+//! The `.gdb_index` format (GDB manual, "Index Section Format"), with the compilation units (CUs) of `.debug_info`
+//! (DWARF 5, 7.4 and 7.5.1) and the sets of `.debug_gnu_pubnames` and `.debug_gnu_pubtypes` that an index is made of.
+//! The definitions stand in `specs/`; the plain types that they name, laws over them and examples of them stand
+//! here. `specs/Version.antt` alone holds what depends on the version of an index.
 #![tactic(auto)]
 
 mod bad_index;
@@ -19,8 +19,8 @@ pub use examples::{
     two_names_are_found,
 };
 pub use laws::{
-    each_slot_once, objects_are_one, sets_are_one, sizes_are_one, units_are_one, units_of_all_run,
-    words_are_one,
+    each_slot_once, objects_are_one, published_names_are_one, sets_are_one, sizes_are_one,
+    units_are_one, units_of_all_run, words_are_one,
 };
 pub use name_words::NameWords;
 pub use placement::{AddressEntry, Placement};

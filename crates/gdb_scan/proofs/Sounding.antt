@@ -24,7 +24,8 @@ use Rattle.gdb_scan.specs.declared.mark.Mark.{Mark}
 use Rattle.gdb_scan.specs.Groups.{names_of, values_of, groups}
 use Rattle.gdb_scan.specs.Marks.{marks_at, marks_in, marks_of}
 use Rattle.gdb_scan.specs.Scan.{ObjectScan, IsObjectName, IsSoundScan}
-use Rattle.gdb_scan.specs.PlacedIn.{IsBefore, ArePlacements, NameSections, of_object, is_counted, placed_in}
+use Rattle.gdb_scan.specs.PlacedIn.{IsBefore, ArePlacements, NameSections, of_object, placed_in}
+use Rattle.gdb_index_format.specs.Placed.{is_counted}
 use Rattle.gdb_scan.specs.steps.Gathered.{GathersNames}
 use Rattle.gdb_scan.specs.Cause.{IsNamesCause, FailsInNames}
 use Rattle.gdb_scan.specs.Scanned.{ScansObject}

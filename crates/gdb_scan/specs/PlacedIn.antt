@@ -1,10 +1,10 @@
 -- Which placements of one object an index has room for.
-use Rattle.std.specs.Prelude.{◌≡◌, ℕ, ◌+◌, ◌^◌, ◌<◌, ◌⊎◌, Bool, ◌&&◌, ◌==◌, nat_lt, List, length, slice_get}
+use Rattle.std.specs.Prelude.{◌≡◌, ℕ, ◌+◌, ◌^◌, ◌<◌, ◌⊎◌, ◌==◌, List, length}
 use Rattle.std.specs.List.{All, AllPairs, filter}
 use Rattle.elf_format.specs.Class.{Class}
 use Rattle.elf_format.specs.Section.{sections}
 use Rattle.gdb_index_format.specs.declared.placement.Placement.{Placement}
-use Rattle.gdb_index_format.specs.Placed.{is_code}
+use Rattle.gdb_index_format.specs.Placed.{is_counted}
 
 -- one placement before another, by object and then by section
 abbrev pub IsBefore : Placement → Placement → Type 0
@@ -22,10 +22,6 @@ NameSections c file object ps = All (λ p. p.object ≡ object → p.section < l
 -- the placements of an object
 abbrev pub of_object : ℕ → List Placement → List Placement
 of_object object ps = filter (λ p. p.object == object) ps
-
--- whether a placement of the object with this file counts
-abbrev pub is_counted : Class → List ℕ → Placement → Bool
-is_counted c file p = nat_lt 0 p.size && is_code c (slice_get (sections c file) p.section)
 
 -- how many placements of an object count
 abbrev pub placed_in : Class → List ℕ → ℕ → List Placement → ℕ

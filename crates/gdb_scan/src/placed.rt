@@ -3,7 +3,8 @@
 
 ghost use Rattle.std.specs.Prelude.{◌≡◌, ◌+◌, ◌<◌, ◌≤◌, length};
 ghost use Rattle.std.specs.List.{AllPairs, filter};
-ghost use Rattle.gdb_scan.specs.PlacedIn.{ArePlacements, of_object, is_counted};
+ghost use Rattle.gdb_scan.specs.PlacedIn.{ArePlacements, of_object};
+ghost use Rattle.gdb_index_format.specs.Placed.{is_counted};
 
 use elf_view::File;
 use elf_words::{ElfClass, SHF_ALLOC, SHF_EXECINSTR, SectionHeaderFields, SectionIndex};

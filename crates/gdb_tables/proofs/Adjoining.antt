@@ -24,11 +24,11 @@ use Rattle.dwarf_sections.proofs.UnitSearching.{no_unit}
 use Rattle.dwarf_sections.specs.UnitSearch.{AreAdjacent}
 use Rattle.gdb_scan.specs.declared.error.GdbError.{GdbError}
 use Rattle.gdb_scan.specs.declared.error.GdbError.TheVariants.{BadElf, CompressedSection, BadUnit, BadPubnames, TooManyUnits, IndexTooLarge, NoMemory}
-use Rattle.gdb_tables.specs.Addresses.{entry_at, has_entry, entries_at, entries_of, of_map_error, IsEntriesCause}
+use Rattle.gdb_tables.specs.steps.ObjectEntries.{entry_at, has_entry, entries_at, entries_of, of_map_error, IsEntriesCause}
 use Rattle.gdb_scan.specs.Cause.{IsOnlyMemory}
 use Rattle.gdb_scan.proofs.Sounding.{info_short}
 
-next_adjoins : (b : List ℕ) (at : ℕ) (us : List CuBoundary) → Tiles b at us → (k : ℕ) (d : CuBoundary) → k + 1 < length us → (get_or us (k + 1) d).offset ≡ (get_or us k d).offset + (get_or us k d).length
+pub next_adjoins : (b : List ℕ) (at : ℕ) (us : List CuBoundary) → Tiles b at us → (k : ℕ) (d : CuBoundary) → k + 1 < length us → (get_or us (k + 1) d).offset ≡ (get_or us k d).offset + (get_or us k d).length
 next_adjoins b at [] t k d l = absurd (omega arith)
 next_adjoins b at (u ∷ []) t k d l = absurd (omega arith)
 next_adjoins b at (u ∷ v ∷ us) t zero d l = t.2.0 ∙ omega (arith, t.0)
@@ -36,7 +36,7 @@ next_adjoins b at (u ∷ v ∷ us) t (suc k) d l =
     let more : suc k + 1 ≡ suc (k + 1) = omega arith in
     ap (λ n. (get_or (u ∷ v ∷ us) n d).offset) more ∙ next_adjoins b (at + u.length) (v ∷ us) t.2 k d (omega arith)
 
-ends_within : (b : List ℕ) (at : ℕ) (us : List CuBoundary) → Tiles b at us → (k : ℕ) (d : CuBoundary) → k < length us → (get_or us k d).offset + (get_or us k d).length ≤ at + total_length us
+pub ends_within : (b : List ℕ) (at : ℕ) (us : List CuBoundary) → Tiles b at us → (k : ℕ) (d : CuBoundary) → k < length us → (get_or us k d).offset + (get_or us k d).length ≤ at + total_length us
 ends_within b at [] t k d l = absurd (omega arith)
 ends_within b at (u ∷ us) t zero d l = omega (arith, t.0, sum_by-cons (λ (x : CuBoundary). x.length) u us)
 ends_within b at (u ∷ us) t (suc k) d l = omega (arith, ends_within b (at + u.length) us t.2 k d (omega arith), sum_by-cons (λ (x : CuBoundary). x.length) u us)

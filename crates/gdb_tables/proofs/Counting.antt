@@ -10,7 +10,7 @@ use Rattle.gdb_index.specs.Scan.{word_count}
 use Rattle.gdb_index.specs.Pool.{names_len, name_len}
 use Rattle.gdb_index_format.specs.declared.unit.CuBoundary.{CuBoundary}
 use Rattle.gdb_index_format.specs.Named.{Named, ListsPublished}
-use Rattle.gdb_index_format.specs.Published.{Object, Pair, firsts, first_names, units_in_objects}
+use Rattle.gdb_index_format.specs.Published.{Object, Pair, firsts, first_names, units_in_lists, unit_lists}
 use Rattle.gdb_scan.specs.Groups.{names_of, values_of}
 use Rattle.gdb_scan.specs.Scan.{ObjectScan}
 use Rattle.gdb_tables.specs.Scans.{unit_counts, units_in_scans, AreScansOf}
@@ -113,19 +113,19 @@ names_small ps = omega (arith, at_least_one (first_names ps), bytes_small ps)
 
 -- ---- units
 
-pub units_of_scans : (os : List Object) (ss : List (Option ObjectScan)) → AreScansOf os ss → units_in_scans ss ≡ units_in_objects os
+pub units_of_scans : (os : List Object) (ss : List (Option ObjectScan)) → AreScansOf os ss → units_in_scans ss ≡ units_in_lists (unit_lists os)
 units_of_scans [] [] h = refl
 units_of_scans [] (s ∷ ss) h = absurd h
 units_of_scans (o ∷ os) [] h = absurd h
-units_of_scans (o ∷ os) (None ∷ ss) h = ap (λ us. [] ++ us) (units_of_scans os ss h.1) ∙ ap (λ us. us ++ units_in_objects os) (sym h.0)
-units_of_scans (o ∷ os) (Some s ∷ ss) h = ap (λ us. s.units ++ us) (units_of_scans os ss h.1) ∙ ap (λ us. us ++ units_in_objects os) h.0.0
+units_of_scans (o ∷ os) (None ∷ ss) h = ap (λ us. [] ++ us) (units_of_scans os ss h.1) ∙ ap (λ us. us ++ units_in_lists (unit_lists os)) (sym h.0)
+units_of_scans (o ∷ os) (Some s ∷ ss) h = ap (λ us. s.units ++ us) (units_of_scans os ss h.1) ∙ ap (λ us. us ++ units_in_lists (unit_lists os)) h.0.0
 
-pub counts_of_scans : (os : List Object) (ss : List (Option ObjectScan)) → AreScansOf os ss → unit_counts ss ≡ map (λ o. length o.units) os
+pub counts_of_scans : (os : List Object) (ss : List (Option ObjectScan)) → AreScansOf os ss → unit_counts ss ≡ map (λ us. length us) (unit_lists os)
 counts_of_scans [] [] h = refl
 counts_of_scans [] (s ∷ ss) h = absurd h
 counts_of_scans (o ∷ os) [] h = absurd h
-counts_of_scans (o ∷ os) (None ∷ ss) h = ap (λ ns. 0 ∷ ns) (counts_of_scans os ss h.1) ∙ ap (λ (us : List CuBoundary). length us ∷ map (λ (x : Object). length x.units) os) (sym h.0)
-counts_of_scans (o ∷ os) (Some s ∷ ss) h = ap (λ ns. length s.units ∷ ns) (counts_of_scans os ss h.1) ∙ ap (λ (us : List CuBoundary). length us ∷ map (λ (x : Object). length x.units) os) h.0.0
+counts_of_scans (o ∷ os) (None ∷ ss) h = ap (λ ns. 0 ∷ ns) (counts_of_scans os ss h.1) ∙ ap (λ (us : List CuBoundary). length us ∷ map (λ (x : List CuBoundary). length x) (unit_lists os)) (sym h.0)
+counts_of_scans (o ∷ os) (Some s ∷ ss) h = ap (λ ns. length s.units ∷ ns) (counts_of_scans os ss h.1) ∙ ap (λ (us : List CuBoundary). length us ∷ map (λ (x : List CuBoundary). length x) (unit_lists os)) h.0.0
 
 pub as_many : (os : List Object) (ss : List (Option ObjectScan)) → AreScansOf os ss → length ss ≡ length os
 as_many [] [] h = refl

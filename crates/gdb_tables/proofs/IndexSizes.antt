@@ -8,7 +8,7 @@ use Rattle.gdb_index.specs.declared.size.IndexCounts.{IndexCounts}
 use Rattle.gdb_index.specs.declared.size.IndexTooLarge.{IndexTooLarge as TooLarge}
 use Rattle.gdb_index_format.specs.declared.placement.Placement.{Placement}
 use Rattle.gdb_index_format.specs.Named.{ListsPublished}
-use Rattle.gdb_index_format.specs.Published.{Object, units_of_all, end_to_end, published}
+use Rattle.gdb_index_format.specs.Published.{Object, units_of_all, end_to_end, published, unit_lists}
 use Rattle.gdb_index_format.specs.Objects.{AreObjectsOf}
 use Rattle.gdb_index_format.specs.Placed.{placed}
 use Rattle.gdb_index_format.specs.Size.{Counts, IsSize, counts_of, size_with}
@@ -58,8 +58,8 @@ merge_cause version c files ps ss NoMemory done cause = no_memory
 pub record Gathered (c : Class) (files : List (List ℕ)) (ps : List Placement) (os : List Object) (m : Scan) : Type 0 where
   pub few : length (units_of_all os) ≤ 2 ^ 24
   pub units : m.units ≡ units_of_all os
-  pub counts : m.unit_counts ≡ map (λ o. length o.units) os
-  pub placed : m.placed ≡ length (placed c files os ps)
+  pub counts : m.unit_counts ≡ map (λ us. length us) (unit_lists os)
+  pub placed : m.placed ≡ length (placed c files (unit_lists os) ps)
   pub names : ListsPublished (published os) m.names
 
 pub gathered : (c : Class) (files : List (List ℕ)) (ps : List Placement) (ss : List (Option ObjectScan)) (m : Scan) (done : ScansObjects c files ps ss) → IsMergeOf ss m → ((os : List Object) → AreScansOf os ss → ListsPublished (published os) m.names) → Gathered c files ps done.objects m
@@ -87,7 +87,7 @@ sized_none version c files ps ss m done all none = record {
   held = done.held;
   plain = done.plain;
   few = all.few;
-  size_is = zero_size version (counts_of done.objects (length (placed c files done.objects ps))) (ap length (sym all.units) ∙ none);
+  size_is = zero_size version (counts_of done.objects (length (placed c files (unit_lists done.objects) ps))) (ap length (sym all.units) ∙ none);
   scanned = sym all.units ∙ nil_from m.units none;
 }
 
@@ -99,7 +99,7 @@ same_counts u p n w b v q o x d e f g h i =
     ∙ ap (λ (k : ℕ). record { units = v; placed = q; names = o; words = k; name_bytes = b }) h
     ∙ ap (λ (k : ℕ). record { units = v; placed = q; names = o; words = x; name_bytes = k }) i
 
-counts_are : (c : Class) (files : List (List ℕ)) (ps : List Placement) (os : List Object) (m : Scan) → Gathered c files ps os m → index.format_counts (index.scan_counts m) ≡ counts_of os (length (placed c files os ps))
+counts_are : (c : Class) (files : List (List ℕ)) (ps : List Placement) (os : List Object) (m : Scan) → Gathered c files ps os m → index.format_counts (index.scan_counts m) ≡ counts_of os (length (placed c files (unit_lists os) ps))
 counts_are c files ps os m all = same_counts _ _ _ _ _ _ _ _ _ _ (ap length all.units) all.placed (names_counted (published os) m.names all.names) (words_counted (published os) m.names all.names) (bytes_counted (published os) m.names all.names)
 
 pub counts_small : (c : Class) (files : List (List ℕ)) (ps : List Placement) (ss : List (Option ObjectScan)) (m : Scan) (counts : IndexCounts) (done : ScansObjects c files ps ss) → Gathered c files ps done.objects m → length files < 2 ^ 24 → counts ≡ index.scan_counts m → index.AreSmall counts
@@ -114,7 +114,7 @@ counts_small c files ps ss m counts done all few is =
       name_bytes = omega (arith, bytes_counted (published os) m.names lists, bytes_small (published os), done.small);
     }
 
-size_of : (version : ℕ) (c : Class) (files : List (List ℕ)) (ps : List Placement) (os : List Object) (m : Scan) (counts : IndexCounts) (size : ℕ) → Gathered c files ps os m → counts ≡ index.scan_counts m → index.IsIndexSize version counts size → IsSize version (counts_of os (length (placed c files os ps))) size
+size_of : (version : ℕ) (c : Class) (files : List (List ℕ)) (ps : List Placement) (os : List Object) (m : Scan) (counts : IndexCounts) (size : ℕ) → Gathered c files ps os m → counts ≡ index.scan_counts m → index.IsIndexSize version counts size → IsSize version (counts_of os (length (placed c files (unit_lists os) ps))) size
 size_of version c files ps os m counts size all is sized = subst (λ n. IsSize version n size) (ap index.format_counts is ∙ counts_are c files ps os m all) sized
 
 pub sized_some : (version : ℕ) (c : Class) (files : List (List ℕ)) (ps : List Placement) (ss : List (Option ObjectScan)) (m : Scan) (counts : IndexCounts) (size : ℕ) (done : ScansObjects c files ps ss) → Gathered c files ps done.objects m → 0 < length m.units → counts ≡ index.scan_counts m → index.IsCountable version counts size → SizesIndex version c files ps size (Some m)
@@ -124,7 +124,7 @@ sized_some version c files ps ss m counts size done all some is sized = record {
   plain = done.plain;
   few = all.few;
   size_is = size_of version c files ps done.objects m counts size all is sized.size;
-  scanned = record { some = omega (arith, some, ap length all.units); units = all.units; counts = all.counts; placed = all.placed; names = all.names };
+  scanned = record { some = omega (arith, some, ap length all.units); own = record { units = all.units; counts = all.counts; placed = all.placed }; names = all.names };
 }
 
 pub sized_large : (version : ℕ) (c : Class) (files : List (List ℕ)) (ps : List Placement) (ss : List (Option ObjectScan)) (m : Scan) (counts : IndexCounts) (e : TooLarge) (done : ScansObjects c files ps ss) → Gathered c files ps done.objects m → counts ≡ index.scan_counts m → index.IsTooLarge version counts e → IsSizeCause version c files ps (IndexTooLarge e.0)

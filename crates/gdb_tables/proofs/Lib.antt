@@ -10,3 +10,9 @@ pub mod Adjoining
 pub mod Counting
 pub mod IndexSizes
 pub mod OneCause
+pub mod BuildCauses
+pub mod Indexing
+pub mod NamesInOrder
+pub mod NoUnits
+pub mod OneIndex
+pub mod ListedUnits

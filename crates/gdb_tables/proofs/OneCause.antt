@@ -11,7 +11,7 @@ use Rattle.gdb_index_format.specs.declared.placement.Placement.{Placement}
 use Rattle.gdb_index_format.specs.declared.unit.UnitFault.{UnitFault}
 use Rattle.gdb_index_format.specs.Units.{FailsAt}
 use Rattle.gdb_index_format.specs.Names.{NameSet}
-use Rattle.gdb_index_format.specs.Published.{Object, units_of_all}
+use Rattle.gdb_index_format.specs.Published.{Object, units_of_all, unit_lists}
 use Rattle.gdb_index_format.specs.Objects.{info_bytes, first_compressed, AreSetsOfSections, IsObjectOf, AreObjectsOf}
 use Rattle.gdb_index_format.specs.Placed.{placed}
 use Rattle.gdb_index_format.specs.Size.{IsSize, counts_of}
@@ -105,9 +105,9 @@ only_memory_in_files c files os (Err e) held plain cause = no_files_cause c file
 same_objects : (c : Class) (files : List (List ℕ)) (os ps : List Object) → AreObjectsOf c files os → AreObjectsOf c files ps → os ≡ ps
 same_objects c files os ps p q = objects_are_one_lem.one_list c files os ps p q
 
-same_size : (version : ℕ) (c : Class) (files : List (List ℕ)) (ps : List Placement) (os xs : List Object) (s t : ℕ) → AreObjectsOf c files os → AreObjectsOf c files xs → IsSize version (counts_of os (length (placed c files os ps))) s → IsSize version (counts_of xs (length (placed c files xs ps))) t → s ≡ t
+same_size : (version : ℕ) (c : Class) (files : List (List ℕ)) (ps : List Placement) (os xs : List Object) (s t : ℕ) → AreObjectsOf c files os → AreObjectsOf c files xs → IsSize version (counts_of os (length (placed c files (unit_lists os) ps))) s → IsSize version (counts_of xs (length (placed c files (unit_lists xs) ps))) t → s ≡ t
 same_size version c files ps os xs s t p q left right =
-    sizes_are_one_lem.one_size version (counts_of xs (length (placed c files xs ps))) s t (subst (λ (l : List Object). IsSize version (counts_of l (length (placed c files l ps))) s) (same_objects c files os xs p q) left) right
+    sizes_are_one_lem.one_size version (counts_of xs (length (placed c files (unit_lists xs) ps))) s t (subst (λ (l : List Object). IsSize version (counts_of l (length (placed c files (unit_lists l) ps))) s) (same_objects c files os xs p q) left) right
 
 same_number : (c : Class) (files : List (List ℕ)) (os xs : List Object) → AreObjectsOf c files os → AreObjectsOf c files xs → length (units_of_all os) ≡ length (units_of_all xs)
 same_number c files os xs p q = ap (λ (l : List Object). length (units_of_all l)) (same_objects c files os xs p q)

@@ -10,12 +10,13 @@ use Rattle.elf_format.specs.Class.{Class}
 use Rattle.elf_format.specs.Section.{sections}
 use Rattle.elf_view.specs.Parsed.{Parsed}
 use Rattle.gdb_index_format.specs.declared.placement.Placement.{Placement}
-use Rattle.gdb_index_format.specs.Published.{Object}
+use Rattle.gdb_index_format.specs.Published.{Object, unit_lists}
 use Rattle.gdb_index_format.specs.Objects.{IsObjectOf, AreObjectsOf, first_compressed}
 use Rattle.gdb_index_format.specs.Placed.{has_unit, counts_in, placed}
 use Rattle.gdb_scan.specs.declared.error.GdbError.{GdbError}
 use Rattle.gdb_scan.specs.Cause.{IsScanCause}
-use Rattle.gdb_scan.specs.PlacedIn.{NameSections, of_object, is_counted, placed_in}
+use Rattle.gdb_scan.specs.PlacedIn.{NameSections, of_object, placed_in}
+use Rattle.gdb_index_format.specs.Placed.{is_counted}
 use Rattle.gdb_scan.specs.Scan.{ObjectScan, IsScanOf, placed_in_scan}
 use Rattle.gdb_tables.specs.Scans.{AreScansOf, placed_total}
 use Rattle.gdb_scan.specs.Scanned.{ScansObject, HasHeaderRoom}
@@ -155,7 +156,7 @@ both true false = refl
 both false true = refl
 both false false = refl
 
-counted_once : (c : Class) (at n : ℕ) (files : List (List ℕ)) (os : List Object) (p : Placement) → AreObjectsOf c files os → p.object ≡ at + n → counted_from c at files os p ≡ one_if (counts_in c (slice_get files n) (slice_get os n) p)
+counted_once : (c : Class) (at n : ℕ) (files : List (List ℕ)) (os : List Object) (p : Placement) → AreObjectsOf c files os → p.object ≡ at + n → counted_from c at files os p ≡ one_if (counts_in c (slice_get files n) (slice_get (unit_lists os) n) p)
 unfolding counted_from one_if
 counted_once c at n [] [] p h is = refl
 counted_once c at n [] (o ∷ os) p h is = absurd h
@@ -167,13 +168,13 @@ counted_once c at (suc n) (file ∷ files) (o ∷ os) p h is =
     let differ : eqb p.object at ≡ false = false_from_ne_true _ (λ t. omega (arith, is, eqb-true p.object at t)) in
     rw differ (omega (arith, counted_once c (at + 1) n files os p h.1 (is ∙ omega arith), nothing (has_unit o.units) 0))
 
-pub placed_is : (c : Class) (files : List (List ℕ)) (os : List Object) (ps : List Placement) → AreObjectsOf c files os → placed_from c 0 files os ps ≡ length (placed c files os ps)
+pub placed_is : (c : Class) (files : List (List ℕ)) (os : List Object) (ps : List Placement) → AreObjectsOf c files os → placed_from c 0 files os ps ≡ length (placed c files (unit_lists os) ps)
 placed_is c files os [] h = from_none c 0 files os
 placed_is c files os (p ∷ ps) h =
     from_next c 0 files os p ps
     ∙ ap (λ n. n + placed_from c 0 files os ps) (counted_once c 0 p.object files os p h (omega arith))
-    ∙ ap (λ n. one_if (counts_in c (slice_get files p.object) (slice_get os p.object) p) + n) (placed_is c files os ps h)
-    ∙ sym (count_next (λ q. counts_in c (slice_get files q.object) (slice_get os q.object) q) p ps)
+    ∙ ap (λ n. one_if (counts_in c (slice_get files p.object) (slice_get (unit_lists os) p.object) p) + n) (placed_is c files os ps h)
+    ∙ sym (count_next (λ q. counts_in c (slice_get files q.object) (slice_get (unit_lists os) q.object) q) p ps)
 
 pub scans_objects : (c : Class) (files : List (List ℕ)) (ps : List Placement) (scans : List (Option ObjectScan)) → Scanned c files ps scans → ScansObjects c files ps scans
 scans_objects c files ps scans h = record { objects = h.objects; held = h.held; plain = h.plain; scanned = h.scanned; placed = h.placed ∙ placed_is c files h.objects ps h.held; small = omega (arith, h.small, published_weight 0 h.objects); few = h.few }

@@ -5,7 +5,7 @@ use Rattle.elf_format.specs.Class.{Class}
 use Rattle.elf_format.specs.Section.{sections}
 use Rattle.elf_view.specs.Parsed.{Parsed}
 use Rattle.gdb_index_format.specs.declared.placement.Placement.{Placement}
-use Rattle.gdb_index_format.specs.Published.{Object, published}
+use Rattle.gdb_index_format.specs.Published.{Object, published, unit_lists}
 use Rattle.gdb_index_format.specs.Objects.{AreObjectsOf, first_compressed}
 use Rattle.gdb_index_format.specs.Placed.{placed}
 use Rattle.gdb_scan.specs.declared.error.GdbError.{GdbError}
@@ -43,7 +43,7 @@ pub record ScansObjects (c : Class) (files : List (List ℕ)) (ps : List Placeme
   pub held : AreObjectsOf c files objects
   pub plain : ArePlain c files
   pub scanned : AreScansOf objects scans
-  pub placed : placed_total scans ≡ length (placed c files objects ps)
+  pub placed : placed_total scans ≡ length (placed c files (unit_lists objects) ps)
   pub small : published_bytes objects ≤ length files * 2 ^ 73
   pub few : placed_total scans ≤ length files * 2 ^ 39
 

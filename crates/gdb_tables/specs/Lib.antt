@@ -4,4 +4,6 @@ pub mod Addresses
 pub mod Merged
 pub mod Files
 pub mod Sized
+pub mod Index
 pub mod Laws
+pub mod steps

@@ -4,20 +4,19 @@ use Rattle.elf_format.specs.Class.{Class}
 use Rattle.gdb_index.specs.Scan.{Scan}
 use Rattle.gdb_index_format.specs.declared.placement.Placement.{Placement}
 use Rattle.gdb_index_format.specs.Named.{ListsPublished}
-use Rattle.gdb_index_format.specs.Published.{Object, units_of_all, published}
+use Rattle.gdb_index_format.specs.Published.{Object, units_of_all, published, unit_lists}
 use Rattle.gdb_index_format.specs.Objects.{AreObjectsOf}
 use Rattle.gdb_index_format.specs.Placed.{placed}
 use Rattle.gdb_index_format.specs.Size.{IsSize, counts_of}
 use Rattle.gdb_scan.specs.declared.error.GdbError.{GdbError}
 use Rattle.gdb_scan.specs.declared.error.GdbError.TheVariants.{TooManyUnits, IndexTooLarge, NoMemory}
+use Rattle.gdb_tables.specs.Addresses.{IsScanOfUnits}
 use Rattle.gdb_tables.specs.Files.{ArePlain, FirstBadObject}
 
 -- The units of all objects, their names and words, and their counts.
 pub record IsScanOfAll (os : List Object) (count : ℕ) (scan : Scan) : Type 0 where
   pub some : 0 < length (units_of_all os)
-  pub units : scan.units ≡ units_of_all os
-  pub counts : scan.unit_counts ≡ map (λ o. length o.units) os
-  pub placed : scan.placed ≡ count
+  pub own : IsScanOfUnits (unit_lists os) count scan
   pub names : ListsPublished (published os) scan.names
 
 -- without a unit there is no scan
@@ -31,8 +30,8 @@ pub record SizesIndex (version : ℕ) (c : Class) (files : List (List ℕ)) (ps 
   pub held : AreObjectsOf c files objects
   pub plain : ArePlain c files
   pub few : length (units_of_all objects) ≤ 2 ^ 24
-  pub size_is : IsSize version (counts_of objects (length (placed c files objects ps))) size
-  pub scanned : IsScanOrNone objects (length (placed c files objects ps)) scan
+  pub size_is : IsSize version (counts_of objects (length (placed c files (unit_lists objects) ps))) size
+  pub scanned : IsScanOrNone objects (length (placed c files (unit_lists objects) ps)) scan
 
 -- Files that hold objects, whose index has a size that its offsets can count.
 pub record IsIndexable (version : ℕ) (c : Class) (files : List (List ℕ)) (ps : List Placement) : Type 0 where
@@ -41,7 +40,7 @@ pub record IsIndexable (version : ℕ) (c : Class) (files : List (List ℕ)) (ps
   pub plain : ArePlain c files
   pub few : length (units_of_all objects) ≤ 2 ^ 24
   pub size : ℕ
-  pub size_is : IsSize version (counts_of objects (length (placed c files objects ps))) size
+  pub size_is : IsSize version (counts_of objects (length (placed c files (unit_lists objects) ps))) size
   pub fits : size < 2 ^ 32
 
 -- Why an index has no size: the first object that is not scanned, or objects that have too many units, or whose
@@ -49,5 +48,5 @@ pub record IsIndexable (version : ℕ) (c : Class) (files : List (List ℕ)) (ps
 pub data IsSizeCause (version : ℕ) (c : Class) (files : List (List ℕ)) (ps : List Placement) : GdbError → Type 0 where
   in_object : (e : GdbError) → FirstBadObject c files e → IsSizeCause version c files ps e
   too_many : (os : List Object) → AreObjectsOf c files os → ArePlain c files → 2 ^ 24 < length (units_of_all os) → IsSizeCause version c files ps (TooManyUnits (length (units_of_all os)))
-  too_large : (os : List Object) → AreObjectsOf c files os → ArePlain c files → length (units_of_all os) ≤ 2 ^ 24 → (size : ℕ) → IsSize version (counts_of os (length (placed c files os ps))) size → 2 ^ 32 ≤ size → IsSizeCause version c files ps (IndexTooLarge size)
+  too_large : (os : List Object) → AreObjectsOf c files os → ArePlain c files → length (units_of_all os) ≤ 2 ^ 24 → (size : ℕ) → IsSize version (counts_of os (length (placed c files (unit_lists os) ps))) size → 2 ^ 32 ≤ size → IsSizeCause version c files ps (IndexTooLarge size)
   no_memory : IsSizeCause version c files ps NoMemory

@@ -1,47 +1,44 @@
-//! The entries of the address area: which unit the addresses of a placed section belong to (GDB manual, "Index
-//! Section Format"). Objects are gone over one by one, each with its placements; the relocations of an object's
-//! units are read where it has two units or more.
+//! The entries of the address area: the unit of the addresses of a placed section (GDB manual, "Index Section
+//! Format"). Objects are handled one by one, each with its placements. The relocations of an object's units are read
+//! where it has two units or more.
 
 ghost use Rattle.std.specs.Prelude.{◌≡◌, ℕ, List, ◌+◌, ◌^◌, ◌<◌, ◌≤◌, ◌++◌, None, length, OnOk, IfOk, IfErr};
 ghost use Rattle.std.specs.List.{All};
-ghost use Rattle.gdb_index_format.specs.declared.unit.CuBoundary.{CuBoundary};
+ghost use Rattle.gdb_index_format.specs.declared.unit.CuBoundary.{CuBoundary as CuBoundary_spec};
 ghost use Rattle.gdb_index_format.specs.Addresses.{unit_of_section, unit_relocation_fault};
-ghost use Rattle.gdb_index_format.specs.Objects.{IsUnitsOf, AreObjectsOf};
+ghost use Rattle.gdb_index_format.specs.Objects.{IsUnitsOf, AreUnitsOf};
 ghost use Rattle.gdb_index_format.specs.Placed.{placed};
-ghost use Rattle.gdb_index_format.specs.Published.{Object};
-ghost use Rattle.gdb_tables.specs.Addresses.{addresses, first_relocation_fault, of_map_error, entry_at, entries_at, entries_of, unit_told, IsEntriesCause, IsAddressCause};
+ghost use Rattle.gdb_tables.specs.Addresses.{IsScanOfUnits, addresses, first_relocation_fault, IsAddressCause};
+ghost use Rattle.gdb_tables.specs.steps.ObjectEntries.{of_map_error, entry_at, entries_at, entries_of, unit_mapped, AreListedUnits, IsEntriesCause};
 ghost use Rattle.gdb_tables.specs.Files.{file_bytes, ArePlacedIn};
 ghost use Rattle.gdb_scan.specs.PlacedIn.{ArePlacements, of_object};
-ghost use Rattle.gdb_tables.specs.Sized.{IsScanOfAll};
 
 use elf_view::File;
 use elf_words::ElfClass;
 use gdb_index::GdbIndexScanResult;
-use gdb_index_format::{AddressEntry, Placement};
-use gdb_scan::{
-    GdbError, MapError, build_section_cu_map, is_code_placement, placements_of, read_units,
-};
+use gdb_index_format::{AddressEntry, CuBoundary, Placement};
+use gdb_scan::{GdbError, MapError, is_code_placement, placements_of, section_units};
 use std::alloc::{AllocError, Global};
 use std::collections::HashMap;
 
-/// Whether a placement of an object with a unit has an entry: it counts, and is at an address above 0.
+/// Reports whether a placement of an object with a unit has an entry: it counts, and is at an address above 0.
 fn has_entry<C: ElfClass>(file: &File<'_, C>, placement: &Placement) -> bool
-    ensures { result ≡ Rattle.gdb_tables.specs.Addresses.has_entry C.class file.now.bytes placement.now }
+    ensures { result ≡ Rattle.gdb_tables.specs.steps.ObjectEntries.has_entry C.class file.now.bytes placement.now }
 {
     is_code_placement(file, placement) && placement.address != 0
 }
 
-/// The entry of a placement, where the object's first unit has the number `first`, and the units of its sections
-/// are told by a map.
-fn entry_of(first: u32, told: &HashMap<usize, u32>, placement: &Placement) -> AddressEntry
-    requires small { first + unit_told told.now placement.now.section < 2 ^ 32 }
+/// Returns the entry of a placement, where the object's first unit has the index `first`, and a map assigns units to
+/// its sections.
+fn entry_of(first: u32, map: &HashMap<usize, u32>, placement: &Placement) -> AddressEntry
+    requires small { first + unit_mapped map.now placement.now.section < 2 ^ 32 }
     requires fits { placement.now.address + placement.now.size < 2 ^ 64 }
-    ensures { result ≡ entry_at first (unit_told told.now) placement.now }
+    ensures { result ≡ entry_at first (unit_mapped map.now) placement.now }
 {
     AddressEntry {
         low: placement.address,
         high: placement.address + placement.size,
-        unit: first + told.get(&placement.section).copied().unwrap_or(0),
+        unit: first + map.get(&placement.section).copied().unwrap_or(0),
     }
 }
 
@@ -50,22 +47,22 @@ fn add_entries<C: ElfClass>(
     entries: &mut Vec<AddressEntry>,
     file: &File<'_, C>,
     first: u32,
-    told: &HashMap<usize, u32>,
+    map: &HashMap<usize, u32>,
     placements: &[Placement],
 ) -> Result<(), AllocError>
-    requires small { (section : ℕ) → first + unit_told told.now section < 2 ^ 32 }
+    requires small { (section : ℕ) → first + unit_mapped map.now section < 2 ^ 32 }
     requires fit { All (λ p. p.address + p.size < 2 ^ 64) placements.now }
-    ensures { OnOk result (entries.new.items ≡ entries.old.items ++ entries_at C.class file.now.bytes first (unit_told told.now) placements.now) }
+    ensures { OnOk result (entries.new.items ≡ entries.old.items ++ entries_at C.class file.now.bytes first (unit_mapped map.now) placements.now) }
 {
     for placement in placements {
         if has_entry(file, placement) {
-            entries.push(entry_of(first, told, placement))?;
+            entries.push(entry_of(first, map, placement))?;
         }
     }
     Ok(())
 }
 
-/// Why the relocations of an object's units are not read.
+/// Returns the error of an object whose relocations are not read.
 fn of_relocations(object: usize, error: MapError) -> GdbError
     ensures { result ≡ of_map_error object error }
 {
@@ -75,82 +72,71 @@ fn of_relocations(object: usize, error: MapError) -> GdbError
     }
 }
 
-/// The units that the relocations of an object with so many units tell of its sections: of none where it has fewer
-/// than two units, and its relocations are not read.
-fn told_units<C: ElfClass>(
+/// Maps the sections of an object to units, by its relocations. Maps none where the object has fewer than two units, and
+/// reads no relocation then. The units stand as the index lists them.
+fn assigned_units<C: ElfClass>(
     alloc: Global,
     object: usize,
     file: &File<'_, C>,
-    count: u32,
+    units: &[CuBoundary],
 ) -> Result<HashMap<usize, u32>, GdbError>
-    requires small { length file.now.bytes < 2 ^ 39 }
-    requires held { (us : List CuBoundary) × IsUnitsOf C.class file.now.bytes us × (length us ≡ count) }
-    ensures told { IfOk result (λ told. (us : List CuBoundary) → IsUnitsOf C.class file.now.bytes us → (section : ℕ) → unit_told told section ≡ unit_of_section C.class file.now.is_dynamic file.now.bytes us section) }
-    ensures sound { OnOk result ((us : List CuBoundary) → IsUnitsOf C.class file.now.bytes us → unit_relocation_fault C.class file.now.is_dynamic file.now.bytes us ≡ None) }
-    ensures cause { IfErr result (λ e. (us : List CuBoundary) → IsUnitsOf C.class file.now.bytes us → IsEntriesCause object (unit_relocation_fault C.class file.now.is_dynamic file.now.bytes us) e) }
+    requires few { length units.now ≤ 2 ^ 24 }
+    requires held { AreListedUnits C.class file.now.bytes units.now }
+    ensures mapped { IfOk result (λ map. (us : List CuBoundary_spec) → IsUnitsOf C.class file.now.bytes us → (section : ℕ) → unit_mapped map section ≡ unit_of_section C.class file.now.is_dynamic file.now.bytes us section) }
+    ensures sound { OnOk result ((us : List CuBoundary_spec) → IsUnitsOf C.class file.now.bytes us → unit_relocation_fault C.class file.now.is_dynamic file.now.bytes us ≡ None) }
+    ensures cause { IfErr result (λ e. (us : List CuBoundary_spec) → IsUnitsOf C.class file.now.bytes us → IsEntriesCause object (unit_relocation_fault C.class file.now.is_dynamic file.now.bytes us) e) }
 {
-    if count < 2 {
+    if units.len() < 2 {
         return Ok(HashMap::new(alloc));
     }
-    let units = match read_units(alloc, object, file) {
-        Ok(units) => units,
-        Err(error) => return Err(error),
-    };
-    match build_section_cu_map(alloc, file, &units) {
-        Ok(told) => Ok(told),
+    match section_units(alloc, file, units, units[0].offset) {
+        Ok(map) => Ok(map),
         Err(error) => Err(of_relocations(object, error)),
     }
 }
 
-/// Which of the units of all objects are those of one object.
-#[derive(Clone, Copy)]
-struct ObjectUnits {
-    first: u32,
-    count: u32,
-}
-
-/// Adds the entries of an object's placements.
+/// Adds the entries of an object's placements. `first` is the index of the object's first unit, and the units stand as
+/// the index lists them.
 fn add_object<C: ElfClass>(
     alloc: Global,
     entries: &mut Vec<AddressEntry>,
     object: usize,
     file: &File<'_, C>,
-    units: ObjectUnits,
+    first: u32,
+    units: &[CuBoundary],
     placements: &[Placement],
 ) -> Result<(), GdbError>
-    requires small { length file.now.bytes < 2 ^ 39 }
-    requires held { (us : List CuBoundary) × IsUnitsOf C.class file.now.bytes us × (length us ≡ units.count) }
-    requires room { units.first + units.count ≤ 2 ^ 24 }
+    requires held { AreListedUnits C.class file.now.bytes units.now }
+    requires room { first + length units.now ≤ 2 ^ 24 }
     requires fit { All (λ p. p.address + p.size < 2 ^ 64) placements.now }
-    ensures entries { OnOk result ((us : List CuBoundary) → IsUnitsOf C.class file.now.bytes us → entries.new.items ≡ entries.old.items ++ entries_of C.class file.now units.first us placements.now) }
-    ensures sound { OnOk result ((us : List CuBoundary) → IsUnitsOf C.class file.now.bytes us → unit_relocation_fault C.class file.now.is_dynamic file.now.bytes us ≡ None) }
-    ensures cause { IfErr result (λ e. (us : List CuBoundary) → IsUnitsOf C.class file.now.bytes us → IsEntriesCause object (unit_relocation_fault C.class file.now.is_dynamic file.now.bytes us) e) }
+    ensures entries { OnOk result ((us : List CuBoundary_spec) → IsUnitsOf C.class file.now.bytes us → entries.new.items ≡ entries.old.items ++ entries_of C.class file.now first us placements.now) }
+    ensures sound { OnOk result ((us : List CuBoundary_spec) → IsUnitsOf C.class file.now.bytes us → unit_relocation_fault C.class file.now.is_dynamic file.now.bytes us ≡ None) }
+    ensures cause { IfErr result (λ e. (us : List CuBoundary_spec) → IsUnitsOf C.class file.now.bytes us → IsEntriesCause object (unit_relocation_fault C.class file.now.is_dynamic file.now.bytes us) e) }
 {
-    let told = match told_units(alloc, object, file, units.count) {
-        Ok(told) => told,
+    let map = match assigned_units(alloc, object, file, units) {
+        Ok(map) => map,
         Err(error) => return Err(error),
     };
-    if units.count == 0 {
+    if units.is_empty() {
         return Ok(());
     }
-    add_entries(entries, file, units.first, &told, placements)?;
+    add_entries(entries, file, first, &map, placements)?;
     Ok(())
 }
 
-/// The entries of the address area, one for each placement that counts and is at an address above 0, in the order
-/// of the placements: a placement counts where its size is above 0, its section takes memory and holds
-/// instructions, and its object has a unit. The unit of an entry is the one that the relocations of the object's
-/// `.debug_info` tell of the section, as `build_section_cu_map` finds it, where the object has two units or more
-/// and they tell one, and else the object's first; it is given by its number among the units of all objects.
+/// Returns the entries of the address area: one for each placement that counts and is at an address above 0, in the
+/// order of the placements. A placement counts where its size is above 0, its section has the flags `SHF_ALLOC` and
+/// `SHF_EXECINSTR`, and its object has a compilation unit (CU). The CU of an entry is the one that the relocations of
+/// the object's `.debug_info` assign to the section, as `build_section_cu_map` finds it, where the object has two CUs or
+/// more and they assign one, and else the object's first. It is given by its CU index, among the CUs of all objects.
 ///
-/// `BadElf` comes for the first object with two units or more whose relocations are at fault, also where none of
-/// its sections is placed: `SectionData` where their bytes leave the file, `RelocationTable` where these are no
-/// whole records, and `SymbolIndex` where a symbol or the section index of one is missing. `NoMemory` may come at
-/// any objects.
+/// `BadElf` comes for the first object with two CUs or more whose relocations have a fault, also where none of its
+/// sections is placed: `SectionData` where their bytes are out of the file, `RelocationTable` where these are not whole
+/// RELA records, and `SymbolIndex` where a symbol or its section index is missing. `NoMemory` may come for any objects.
 ///
-/// There are fewer than 2^24 files, each of fewer than 2^39 bytes. The placements ascend by object and section,
-/// name objects and sections that are there, and their ends fit 64 bits. The scan is that of these files and
-/// placements.
+/// Requires fewer than 2^24 files, each of fewer than 2^39 bytes; placements that ascend by object and section, name
+/// objects and sections that exist, and whose ends fit 64 bits; and a scan whose CUs, CU counts and number of placed
+/// sections are those of these files and placements.
 pub fn build_address_entries<C: ElfClass>(
     alloc: Global,
     files: &[File<'_, C>],
@@ -160,23 +146,22 @@ pub fn build_address_entries<C: ElfClass>(
     requires few { length files.now < 2 ^ 24 }
     requires small { All (λ file. length file.bytes < 2 ^ 39) files.now }
     requires placements { ArePlacedIn C.class (file_bytes files.now) placements.now }
-    requires scanned { (os : List Object) × AreObjectsOf C.class (file_bytes files.now) os × IsScanOfAll os (length (placed C.class (file_bytes files.now) os placements.now)) scan.now }
-    ensures entries { IfOk result (λ v. (os : List Object) → AreObjectsOf C.class (file_bytes files.now) os → v.items ≡ addresses C.class files.now os placements.now) }
-    ensures sound { OnOk result ((os : List Object) → AreObjectsOf C.class (file_bytes files.now) os → first_relocation_fault C.class files.now os ≡ None) }
+    requires scanned { (uss : List (List CuBoundary_spec)) × AreUnitsOf C.class (file_bytes files.now) uss × IsScanOfUnits uss (length (placed C.class (file_bytes files.now) uss placements.now)) scan.now }
+    ensures entries { IfOk result (λ v. (uss : List (List CuBoundary_spec)) → AreUnitsOf C.class (file_bytes files.now) uss → v.items ≡ addresses C.class files.now uss placements.now) }
+    ensures sound { OnOk result ((uss : List (List CuBoundary_spec)) → AreUnitsOf C.class (file_bytes files.now) uss → first_relocation_fault C.class files.now uss ≡ None) }
     ensures few { IfOk result (λ v. length v.items ≤ scan.now.placed) }
-    ensures cause { IfErr result (λ e. (os : List Object) → AreObjectsOf C.class (file_bytes files.now) os → IsAddressCause (first_relocation_fault C.class files.now os) e) }
+    ensures cause { IfErr result (λ e. (uss : List (List CuBoundary_spec)) → AreUnitsOf C.class (file_bytes files.now) uss → IsAddressCause (first_relocation_fault C.class files.now uss) e) }
 {
+    let units = scan.units();
     let counts = scan.unit_counts();
     let mut entries = Vec::new(alloc);
     let mut first = 0;
     for (object, file) in files.iter().enumerate() {
-        let units = ObjectUnits {
-            first,
-            count: counts[object],
-        };
+        let end = first + counts[object];
+        let listed = &units[first as usize..end as usize];
         let own = placements_of(object, placements);
-        match add_object(alloc, &mut entries, object, file, units, own) {
-            Ok(()) => first += units.count,
+        match add_object(alloc, &mut entries, object, file, first, listed, own) {
+            Ok(()) => first = end,
             Err(error) => return Err(error),
         }
     }

@@ -1,19 +1,16 @@
-//! Gathers what the objects of a program hold for one `.gdb_index` (GDB manual, "Index Section Format"): the
-//! scan of an object, the merge of all scans, the size of the index, and the entries of its address area. With
-//! the calls of the crates below, which are found here too, an index is then written and read.
+//! Builds the `.gdb_index` of all objects of a program (GDB manual, "Index Section Format"): the merge of the scans of
+//! all objects, the size of the index, the entries of its address area, and one call that builds the whole index. The
+//! public calls of the crates below that belong to this task are re-exported here.
 #![tactic(auto)]
 
-#[cfg(test)]
-mod address_tests;
 mod addresses;
 mod files;
+mod index;
 mod laws;
 mod merge;
 mod misplaced;
 mod names;
 mod sizing;
-#[cfg(test)]
-mod tests;
 
 pub use addresses::build_address_entries;
 pub use dwarf_sections::{
@@ -30,7 +27,12 @@ pub use gdb_scan::{
     GdbError, MapError, Mark, NameMarks, PerObjectScan, build_section_cu_map, scan_causes_are_one,
     scan_one_object,
 };
-pub use laws::{files_causes_are_one, indexable_has_no_cause, size_causes_are_one};
+pub use index::{IndexTables, build_index};
+pub use laws::{
+    build_causes_are_one, built_indexes_are_one, files_causes_are_one, index_has_few_steps,
+    indexable_has_no_cause, merges_are_one, relocated_has_no_cause, size_causes_are_one,
+    sized_indexes_are_one,
+};
 pub use merge::merge_gdb_index_scans;
 pub use misplaced::{first_misplaced, placed_are_not_misplaced};
 pub use sizing::compute_gdb_index_size;

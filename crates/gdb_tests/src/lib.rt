@@ -3,6 +3,8 @@
 #![tactic(auto)]
 
 #[cfg(test)]
+mod index;
+#[cfg(test)]
 mod scan;
 #[cfg(test)]
 mod sets;

@@ -1,9 +1,14 @@
-use Rattle.std.proofs.Common.{◌≡◌, rules, subst, List, ℕ}
+use Rattle.std.proofs.Common.{◌≡◌, ◌⊎◌, rules, subst, sym, List, ℕ, IfErr}
+use Rattle.std.proofs.lemmas.Result.{err_from_is_err_and}
 use Rattle.sframe_format.specs.Valid as frames
+use Rattle.derivation.specs.declared.error.DeriveError.TheVariants.{NoMemory}
+use Rattle.derivation.specs.Cause.{IsUnordered}
 use Rattle.derivation.proofs.Refusing.{unordered}
 use Rattle.derivation.proofs.order.order_sframe.Goals as goal
 
-pub returns-in-Err-clause-cause : goal.returns-in-Err-clause-cause
-returns-in-Err-clause-cause c =
+pub returns-in_err-sort_sframe_section-clause-cause : goal.returns-in_err-sort_sframe_section-clause-cause
+returns-in_err-sort_sframe_section-clause-cause c =
     let same : c.deref_mut.result.now ≡ c.args.sframe.now = search rules in
-    unordered c.args.sframe.now c.args.ranges.now c.in-Err.fault c.of_sframe_fault.result c.of_sframe_fault.ensures (subst (λ (s : List ℕ). frames.IsSortCause s c.args.ranges.now c.in-Err.fault) same c.in-Err.ensures.cause)
+    let p = err_from_is_err_and c.from_residual.result c.from_residual.ensures.1 in
+    subst (λ r. IfErr r (λ e. (e ≡ NoMemory) ⊎ IsUnordered c.args.sframe.now c.args.ranges.now e)) (sym p.1)
+    (unordered c.args.sframe.now c.args.ranges.now c.in_err-sort_sframe_section.error p.0 p.2 (subst (λ (s : List ℕ). frames.IsSortCause s c.args.ranges.now c.in_err-sort_sframe_section.error) same c.in_err-sort_sframe_section.ensures.cause))

@@ -12,12 +12,12 @@ returns-then-slots-gt0-clause-extends c =
     let filled = c.fill_table.ensures in
     let end = c.append_zeros-end.result in
     let front = c.split_at_mut-front.result.0.now in
-    let behind = c.split_at_mut-front.result.1.now in
+    let after = c.split_at_mut-front.result.1.now in
     let len : length c.fill_table.new.table ≡ end - c.args.at = ap length filled.bytes_are ∙ length-table filled.table ∙ omega (arith, filled.filled.len, c.append_zeros-end.ensures.end) in
     let none : length (post_of c.args.at (length front - c.args.at) front) ≡ 0 = omega (arith, length-drop (length front - c.args.at) (drop c.args.at front), length-drop c.args.at front) in
     let told : length c.fill_table.new.passed ≡ c.min-room.result = search rules in
-    let rest : length (c.fill_table.new.passed ++ drop c.min-room.result behind) + end ≡ length c.append_zeros-end.new.buf =
-    omega (arith, length-append c.fill_table.new.passed (drop c.min-room.result behind), length-drop c.min-room.result behind, told, c.min-room.ensures, c.split_at_mut-front.ensures.back_len) in
+    let rest : length (c.fill_table.new.passed ++ drop c.min-room.result after) + end ≡ length c.append_zeros-end.new.buf =
+    omega (arith, length-append c.fill_table.new.passed (drop c.min-room.result after), length-drop c.min-room.result after, told, c.min-room.ensures, c.split_at_mut-front.ensures.back_len) in
     record {
       table = filled.table;
       filled = filled.filled;

@@ -100,9 +100,9 @@ returns-clause-units c =
 
 pub returns-clause-answers : goal.returns-clause-answers
 returns-clause-answers c =
-    answers c.append_zeros.new.buf c.args.scan.now c.args.addresses.now (omega (arith, c.requires.small, c.append_zeros.ensures.extends.same_len, c.append_header-at.ensures.extends.same_len, c.append_units-at.ensures.extends.same_len, c.append_addresses-at.ensures.extends.same_len, c.append_table-at.ensures.extends.extends.same_len, c.append_zeros-at.ensures.extends.same_len, c.append_vectors-at.ensures.extends.same_len, c.append_names-at.ensures.extends.same_len)) c.names-names.ensures.sound (returns-clause-layout c)
+    answers c.append_zeros.new.buf c.args.scan.now c.args.addresses.now (omega (arith, c.requires.small, c.append_zeros.ensures.extends.same_len, c.append_header-at.ensures.extends.same_len, c.append_units-at.ensures.extends.same_len, c.append_addresses-at.ensures.extends.same_len, c.append_table-at.ensures.extends.extends.same_len, c.append_zeros-at.ensures.extends.same_len, c.append_vectors-at.ensures.extends.same_len, c.append_names-at.ensures.extends.same_len)) c.names-names.ensures.well_formed (returns-clause-layout c)
 
 pub returns-clause-published : goal.returns-clause-published
 returns-clause-published c = λ ps names.
     answers_all c.append_zeros.new.buf c.args.scan.now.names ps
-    (answered c.append_zeros.new.buf c.args.scan.now c.args.addresses.now (omega (arith, c.requires.small, c.append_zeros.ensures.extends.same_len, c.append_header-at.ensures.extends.same_len, c.append_units-at.ensures.extends.same_len, c.append_addresses-at.ensures.extends.same_len, c.append_table-at.ensures.extends.extends.same_len, c.append_zeros-at.ensures.extends.same_len, c.append_vectors-at.ensures.extends.same_len, c.append_names-at.ensures.extends.same_len)) c.names-names.ensures.sound (returns-clause-layout c)) names
+    (answered c.append_zeros.new.buf c.args.scan.now c.args.addresses.now (omega (arith, c.requires.small, c.append_zeros.ensures.extends.same_len, c.append_header-at.ensures.extends.same_len, c.append_units-at.ensures.extends.same_len, c.append_addresses-at.ensures.extends.same_len, c.append_table-at.ensures.extends.extends.same_len, c.append_zeros-at.ensures.extends.same_len, c.append_vectors-at.ensures.extends.same_len, c.append_names-at.ensures.extends.same_len)) c.names-names.ensures.well_formed (returns-clause-layout c)) names

@@ -14,8 +14,8 @@ loop-unit-preserved c =
     let d : CuBoundary = record { offset = 0; length = 0 } in
     let less : i < length units = c.loop-unit-test.true in
     record {
-      extends = Extends-item unit_bytes _ _ _ _ c.loop-unit.place units i d (get_or units i d) less refl c.loop-unit.invariant.extends c.loop-unit.invariant.end c.append_unit-place.ensures.extends;
-      end = omega (arith, c.append_unit-place.ensures.end, c.loop-unit.invariant.place_is, length-units (take (i + 1) units), length-take-le (i + 1) units (omega (arith, less)));
-      fit = All-more (λ (u : CuBoundary). (u.offset < 2 ^ 64) × (u.length < 2 ^ 64)) units i d less c.loop-unit.invariant.fit c.append_unit-place.ensures.fits;
-      place_is = omega (arith, c.append_unit-place.ensures.end, c.loop-unit.invariant.place_is);
+      extends = Extends-item unit_bytes _ _ _ _ c.loop-unit.offset units i d (get_or units i d) less refl c.loop-unit.invariant.extends c.loop-unit.invariant.end c.append_unit-offset.ensures.extends;
+      end = omega (arith, c.append_unit-offset.ensures.end, c.loop-unit.invariant.offset_is, length-units (take (i + 1) units), length-take-le (i + 1) units (omega (arith, less)));
+      fit = All-more (λ (u : CuBoundary). (u.offset < 2 ^ 64) × (u.length < 2 ^ 64)) units i d less c.loop-unit.invariant.fit c.append_unit-offset.ensures.fits;
+      offset_is = omega (arith, c.append_unit-offset.ensures.end, c.loop-unit.invariant.offset_is);
     }

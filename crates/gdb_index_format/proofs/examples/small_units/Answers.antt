@@ -23,11 +23,11 @@ returns-clause-zeros c = list_from_tiles _ _ (refl, refl, tt) (omega arith) (ome
 
 pub returns-clause-truncated : goal.returns-clause-truncated
 unfolding le unit_length
-returns-clause-truncated c = record { units = []; front = front_from_tiles _ _ tt (omega arith); place = refl; room = omega arith; cause = (refl, omega arith) }
+returns-clause-truncated c = record { units = []; front = front_from_tiles _ _ tt (omega arith); ends = refl; room = omega arith; cause = (refl, omega arith) }
 
 pub returns-clause-beyond : goal.returns-clause-beyond
 unfolding le unit_length
-returns-clause-beyond c = record { units = []; front = front_from_tiles _ _ tt (omega arith); place = refl; room = omega arith; cause = (inr (omega arith), omega arith) }
+returns-clause-beyond c = record { units = []; front = front_from_tiles _ _ tt (omega arith); ends = refl; room = omega arith; cause = (inr (omega arith), omega arith) }
 
 pub returns-clause-long : goal.returns-clause-long
 unfolding le unit_length

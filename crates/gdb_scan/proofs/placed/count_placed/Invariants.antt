@@ -1,6 +1,6 @@
 use Rattle.std.proofs.Common.{◌≡◌, ◌+◌, ◌≤◌, drop, length}
 use Rattle.std.specs.List.{filter}
-use Rattle.gdb_scan.specs.PlacedIn.{is_counted}
+use Rattle.gdb_index_format.specs.Placed.{is_counted}
 use Rattle.gdb_scan.proofs.placed.count_placed.Given as goal
 
 abbrev pub invariant-loop-placement : goal.invariant-loop-placement

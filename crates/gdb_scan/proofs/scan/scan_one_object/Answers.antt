@@ -11,7 +11,8 @@ use Rattle.gdb_scan.specs.Cause.{IsScanCause, compressed, in_units, in_names, no
 use Rattle.gdb_scan.specs.steps.Gathered.{GathersNames}
 use Rattle.gdb_scan.specs.Groups.{shown}
 use Rattle.gdb_scan.specs.Marks.{groups_in}
-use Rattle.gdb_scan.specs.PlacedIn.{placed_in, is_counted}
+use Rattle.gdb_scan.specs.PlacedIn.{placed_in}
+use Rattle.gdb_index_format.specs.Placed.{is_counted}
 use Rattle.gdb_scan.specs.Scan.{IsSoundScan}
 use Rattle.gdb_scan.proofs.Causes.{holds_of, only_memory}
 use Rattle.gdb_scan.proofs.OneCause.{refused_by, one_scan_cause, told_object, no_scan_cause}

@@ -1,63 +1,90 @@
-use Rattle.std.proofs.Common.{◌≡◌, ◌+◌, ◌^◌, ◌<◌, ◌++◌, length, get_or, map, ap, sym, subst, ◌∙◌, arith}
+use Rattle.std.proofs.Common.{rules, ◌≡◌, ℕ, ◌+◌, ◌-◌, ◌^◌, ◌<◌, ◌≤◌, List, ◌++◌, length, take, drop, get_or, map, Some, ap, sym, subst, ◌∙◌, arith}
+use Rattle.std.specs.Prelude.{slice_get}
 use Rattle.std.specs.List.{All}
+use Rattle.elf_format.specs.Class.{Class}
+use Rattle.elf_view.specs.Parsed.{Parsed}
+use Rattle.gdb_index.specs.Scan.{Scan}
+use Rattle.gdb_index_format.specs.Objects.{IsUnitsOf, AreUnitsOf}
+use Rattle.gdb_index_format.specs.Published.{units_in_lists}
+use Rattle.gdb_tables.specs.Addresses.{IsScanOfUnits}
 use Rattle.std.proofs.lemmas.List.{length-map}
-use Rattle.gdb_index_format.specs.Published.{Object}
+use Rattle.gdb_index_format.specs.declared.unit.CuBoundary.{CuBoundary}
 use Rattle.gdb_index_format.specs.declared.placement.Placement.{Placement}
-use Rattle.gdb_index_format.proofs.ObjectLists.{objects_are_one_lem}
-use Rattle.gdb_tables.specs.Addresses.{entries_of}
+use Rattle.gdb_index_format.proofs.ObjectLists.{one_unit_lists}
+use Rattle.gdb_tables.specs.steps.ObjectEntries.{entries_of, AreListedUnits}
+use Rattle.gdb_tables.proofs.ListedUnits.{listed_units, listed_length}
 use Rattle.gdb_tables.specs.Files.{file_bytes}
-use Rattle.gdb_tables.proofs.Addressing.{added_none, added_more, added_all, object_at, as_many_objects, count_at, room_at, own_fit, first_fault, few_addresses}
+use Rattle.gdb_tables.proofs.Addressing.{added_none, added_more, added_all, units_at, as_many_lists, count_at, room_at, own_fit, first_fault, few_addresses}
 use Rattle.gdb_tables.proofs.addresses.build_address_entries.Goals as goal
 
 pub loop-object-init : goal.loop-object-init
-loop-object-init g c = record { added = λ os held. added_none g.C.ElfClass.class c.args.files.now os c.args.placements.now c.new-entries.result.items c.new-entries.ensures.items }
+loop-object-init g c = record { added = λ uss held. added_none g.C.ElfClass.class c.args.files.now uss c.args.placements.now c.new-entries.result.items c.new-entries.ensures.items }
 
 pub bounds-counts-object : goal.bounds-counts-object
 bounds-counts-object g c =
-    let os = c.requires.scanned.0 in
+    let uss = c.requires.scanned.0 in
     let counted = c.requires.scanned.2.counts in
     let counts = c.unit_counts-counts.ensures.counts in
-    omega (arith, ap length counts, ap length counted, length-map os (λ (o : Object). length o.units), as_many_objects g.C.ElfClass.class c.args.files.now os c.requires.scanned.1, c.loop-object-test.true)
+    omega (arith, ap length counts, ap length counted, length-map uss (λ (us : List CuBoundary). length us), as_many_lists g.C.ElfClass.class c.args.files.now uss c.requires.scanned.1, c.loop-object-test.true)
+
+-- the object's units, and their count
+own_units : (c : Class) (files : List Parsed) (uss : List (List CuBoundary)) (counts : List ℕ) (i : ℕ) (f : Parsed) → AreUnitsOf c (file_bytes files) uss → counts ≡ map (λ (us : List CuBoundary). length us) uss → i < length files → f ≡ get_or files i f → (us : List CuBoundary) × (slice_get uss i ≡ Some us) × IsUnitsOf c f.bytes us × (get_or counts i 0 ≡ length us)
+own_units c files uss counts i f held counted l is =
+    let at = units_at c files uss i f held l is in
+    (at.0, at.1, at.2, ap (λ (ns : List ℕ). get_or ns i 0) counted ∙ count_at uss i at.0 at.1)
+
+end_within : (c : Class) (files : List Parsed) (uss : List (List CuBoundary)) (scan : Scan) (counts : List ℕ) (units : List CuBoundary) (count i first : ℕ) (f : Parsed) → AreUnitsOf c (file_bytes files) uss → IsScanOfUnits uss count scan → counts ≡ scan.unit_counts → units ≡ scan.units → i < length files → f ≡ get_or files i f → first ≡ length (units_in_lists (take i uss)) → first + get_or counts i 0 ≤ length units
+end_within c files uss scan counts units count i first f held of_units is_counts is_units l is at =
+    let own = own_units c files uss counts i f held (is_counts ∙ of_units.counts) l is in
+    omega (arith, room_at uss i first own.0 own.1 at, own.3, ap length is_units, ap length of_units.units)
+
+pub overflow_add-end : goal.overflow_add-end
+overflow_add-end g c =
+    let uss = c.requires.scanned.0 in
+    let ends = end_within g.C.ElfClass.class c.args.files.now uss c.args.scan.now c.unit_counts-counts.result.now c.units-units.result.now _ c.loop-object.object c.loop-object.first c.index-files-object.result c.requires.scanned.1 c.requires.scanned.2 c.unit_counts-counts.ensures.counts c.units-units.ensures.units c.loop-object-test.true c.index-files-object.is (c.loop-object.invariant.added uss c.requires.scanned.1).units in
+    record { fits = omega (arith, ends, ap length c.units-units.ensures.units, c.units-units.ensures.well_formed.units) }
+
+-- the slice of an object's units
+listed_here : (c : Class) (files : List Parsed) (uss : List (List CuBoundary)) (scan : Scan) (counts : List ℕ) (units : List CuBoundary) (count i first : ℕ) (f : Parsed) → AreUnitsOf c (file_bytes files) uss → IsScanOfUnits uss count scan → counts ≡ scan.unit_counts → units ≡ scan.units → i < length files → f ≡ get_or files i f → first ≡ length (units_in_lists (take i uss)) → length files < 2 ^ 24 → All (λ (x : Parsed). length x.bytes < 2 ^ 39) files → AreListedUnits c f.bytes (take (first + get_or counts i 0 - first) (drop first units))
+listed_here c files uss scan counts units count i first f held of_units is_counts is_units l is at few small =
+    let own = own_units c files uss counts i f held (is_counts ∙ of_units.counts) l is in
+    let short : length f.bytes < 2 ^ 39 = subst (λ (y : Parsed). length y.bytes < 2 ^ 39) (sym is) (small i f l) in
+    listed_units c files uss units i first (first + get_or counts i 0 - first) f own.0 held small l few own.1 own.2 short (is_units ∙ of_units.units) at (omega (arith, own.3))
+
+pub slice_bounds-listed-end : goal.slice_bounds-listed-end
+slice_bounds-listed-end g c =
+    let uss = c.requires.scanned.0 in
+    let ends = end_within g.C.ElfClass.class c.args.files.now uss c.args.scan.now c.unit_counts-counts.result.now c.units-units.result.now _ c.loop-object.object c.loop-object.first c.index-files-object.result c.requires.scanned.1 c.requires.scanned.2 c.unit_counts-counts.ensures.counts c.units-units.ensures.units c.loop-object-test.true c.index-files-object.is (c.loop-object.invariant.added uss c.requires.scanned.1).units in
+    search rules
 
 pub add_object-requires-clause-held : goal.add_object-requires-clause-held
 add_object-requires-clause-held g c =
-    let i = c.loop-object.object in
-    let os = c.requires.scanned.0 in
-    let at = object_at g.C.ElfClass.class c.args.files.now os i c.index-files-object.result c.requires.scanned.1 c.loop-object-test.true c.index-files-object.is in
-    let counts = c.unit_counts-counts.ensures.counts ∙ c.requires.scanned.2.counts in
-    (at.0.units, at.2.units, sym (ap (λ ns. get_or ns i 0) counts ∙ count_at os i at.0 at.1))
+    let uss = c.requires.scanned.0 in
+    listed_here g.C.ElfClass.class c.args.files.now uss c.args.scan.now c.unit_counts-counts.result.now c.units-units.result.now _ c.loop-object.object c.loop-object.first c.index-files-object.result c.requires.scanned.1 c.requires.scanned.2 c.unit_counts-counts.ensures.counts c.units-units.ensures.units c.loop-object-test.true c.index-files-object.is (c.loop-object.invariant.added uss c.requires.scanned.1).units c.requires.few c.requires.small
 
 pub add_object-requires-clause-room : goal.add_object-requires-clause-room
 add_object-requires-clause-room g c =
-    let i = c.loop-object.object in
-    let os = c.requires.scanned.0 in
-    let at = object_at g.C.ElfClass.class c.args.files.now os i c.index-files-object.result c.requires.scanned.1 c.loop-object-test.true c.index-files-object.is in
-    let counts = c.unit_counts-counts.ensures.counts ∙ c.requires.scanned.2.counts in
-    let units = c.requires.scanned.2.units in
-    let before = c.loop-object.invariant.added os c.requires.scanned.1 in
-    omega (arith, ap (λ ns. get_or ns i 0) counts, count_at os i at.0 at.1, room_at os i c.loop-object.first at.0 at.1 before.units (omega (arith, ap length units, c.unit_counts-counts.ensures.sound.units)))
+    let class = g.C.ElfClass.class in
+    let files = c.args.files.now in
+    let f = c.index-files-object.result in
+    let uss = c.requires.scanned.0 in
+    let counts = c.unit_counts-counts.result.now in
+    let ends = end_within class files uss c.args.scan.now counts c.units-units.result.now _ c.loop-object.object c.loop-object.first f c.requires.scanned.1 c.requires.scanned.2 c.unit_counts-counts.ensures.counts c.units-units.ensures.units c.loop-object-test.true c.index-files-object.is (c.loop-object.invariant.added uss c.requires.scanned.1).units in
+    let own = own_units class files uss counts c.loop-object.object f c.requires.scanned.1 (c.unit_counts-counts.ensures.counts ∙ c.requires.scanned.2.counts) c.loop-object-test.true c.index-files-object.is in
+    let long = listed_length class f.bytes _ (add_object-requires-clause-held g c) own.0 own.2 in
+    omega (arith, ends, long, own.3, ap length c.units-units.ensures.units, c.units-units.ensures.well_formed.units)
 
 pub add_object-requires-clause-fit : goal.add_object-requires-clause-fit
 add_object-requires-clause-fit g c = subst (λ ps. All (λ (p : Placement). p.address + p.size < 2 ^ 64) ps) (sym c.placements_of-own.ensures) (own_fit c.loop-object.object c.args.placements.now c.requires.placements.in_order.fit)
 
-pub overflow_add-first : goal.overflow_add-first
-overflow_add-first g c =
-    let i = c.loop-object.object in
-    let os = c.requires.scanned.0 in
-    let at = object_at g.C.ElfClass.class c.args.files.now os i c.index-files-object.result c.requires.scanned.1 c.loop-object-test.true c.index-files-object.is in
-    let counts = c.unit_counts-counts.ensures.counts ∙ c.requires.scanned.2.counts in
-    let units = c.requires.scanned.2.units in
-    let before = c.loop-object.invariant.added os c.requires.scanned.1 in
-    record { fits = omega (arith, ap (λ ns. get_or ns i 0) counts, count_at os i at.0 at.1, room_at os i c.loop-object.first at.0 at.1 before.units (omega (arith, ap length units, c.unit_counts-counts.ensures.sound.units))) }
-
 pub returns-in-Err-clause-cause : goal.returns-in-Err-clause-cause
-returns-in-Err-clause-cause g c = λ os held.
+returns-in-Err-clause-cause g c = λ uss held.
     let class = g.C.ElfClass.class in
     let files = c.args.files.now in
     let i = c.loop-object.object in
     let f = c.index-files-object.result in
-    let at = object_at class files os i f held c.loop-object-test.true c.index-files-object.is in
-    first_fault class files os c.args.placements.now i c.loop-object.first c.loop-object.entries.items f at.0 c.in-Err.error c.loop-object-test.true c.index-files-object.is at.1 (c.in-Err.ensures.cause at.0.units at.2.units) (c.loop-object.invariant.added os held)
+    let at = units_at class files uss i f held c.loop-object-test.true c.index-files-object.is in
+    first_fault class files uss c.args.placements.now i c.loop-object.first c.loop-object.entries.items f at.0 c.in-Err.error c.loop-object-test.true c.index-files-object.is at.1 (c.in-Err.ensures.cause at.0 at.2) (c.loop-object.invariant.added uss held)
 
 pub loop-object-preserved : goal.loop-object-preserved
 loop-object-preserved g c =
@@ -66,25 +93,25 @@ loop-object-preserved g c =
     let i = c.loop-object.object in
     let f = c.index-files-object.result in
     record {
-      added = λ os held.
-          let at = object_at class files os i f held c.loop-object-test.true c.index-files-object.is in
-          let same : c.requires.scanned.0 ≡ os = objects_are_one_lem.one_list class (file_bytes files) c.requires.scanned.0 os c.requires.scanned.1 held in
-          let counts = c.unit_counts-counts.ensures.counts ∙ c.requires.scanned.2.counts ∙ ap (λ xs. map (λ (o : Object). length o.units) xs) same in
-          added_more class files os c.args.placements.now i c.loop-object.first c.loop-object.entries.items c.add_object.new.entries.items f at.0 _ c.requires.placements c.loop-object-test.true c.index-files-object.is at.1
-          (ap (λ ns. get_or ns i 0) counts ∙ count_at os i at.0 at.1)
-          (c.in-Ok.ensures.entries at.0.units at.2.units ∙ ap (λ ps. c.loop-object.entries.items ++ entries_of class f c.loop-object.first at.0.units ps) c.placements_of-own.ensures)
-          (c.in-Ok.ensures.sound at.0.units at.2.units)
-          (c.loop-object.invariant.added os held);
+      added = λ uss held.
+          let at = units_at class files uss i f held c.loop-object-test.true c.index-files-object.is in
+          let same : c.requires.scanned.0 ≡ uss = one_unit_lists class (file_bytes files) c.requires.scanned.0 uss c.requires.scanned.1 held in
+          let counts = c.unit_counts-counts.ensures.counts ∙ c.requires.scanned.2.counts ∙ ap (λ xs. map (λ (us : List CuBoundary). length us) xs) same in
+          added_more class files uss c.args.placements.now i c.loop-object.first c.loop-object.entries.items c.add_object.new.entries.items f at.0 _ c.requires.placements c.loop-object-test.true c.index-files-object.is at.1
+          (ap (λ ns. get_or ns i 0) counts ∙ count_at uss i at.0 at.1)
+          (c.in-Ok.ensures.entries at.0 at.2 ∙ ap (λ ps. c.loop-object.entries.items ++ entries_of class f c.loop-object.first at.0 ps) c.placements_of-own.ensures)
+          (c.in-Ok.ensures.sound at.0 at.2)
+          (c.loop-object.invariant.added uss held);
     }
 
 pub returns-clause-entries : goal.returns-clause-entries
-returns-clause-entries g c = λ os held. added_all g.C.ElfClass.class c.args.files.now os c.args.placements.now c.loop-object.object c.loop-object.first c.loop-object.entries.items c.requires.placements c.loop-object-test.false (c.loop-object.invariant.added os held)
+returns-clause-entries g c = λ uss held. added_all g.C.ElfClass.class c.args.files.now uss c.args.placements.now c.loop-object.object c.loop-object.first c.loop-object.entries.items c.requires.placements c.loop-object-test.false (c.loop-object.invariant.added uss held)
 
 pub returns-clause-few : goal.returns-clause-few
 returns-clause-few g c =
     let class = g.C.ElfClass.class in
     let files = c.args.files.now in
-    let os = c.requires.scanned.0 in
-    let all = added_all class files os c.args.placements.now c.loop-object.object c.loop-object.first c.loop-object.entries.items c.requires.placements c.loop-object-test.false (c.loop-object.invariant.added os c.requires.scanned.1) in
+    let uss = c.requires.scanned.0 in
+    let all = added_all class files uss c.args.placements.now c.loop-object.object c.loop-object.first c.loop-object.entries.items c.requires.placements c.loop-object-test.false (c.loop-object.invariant.added uss c.requires.scanned.1) in
     let placed = c.requires.scanned.2.placed in
-    omega (arith, ap length all, few_addresses class files os c.args.placements.now, placed)
+    omega (arith, ap length all, few_addresses class files uss c.args.placements.now, placed)

@@ -1,0 +1,165 @@
+//! Builds the index of all objects (GDB manual, "Index Section Format"): its units, its names in byte order, and its
+//! bytes.
+
+ghost use Rattle.std.specs.Prelude.{◌≡◌, ◌≢◌, ◌^◌, ◌<◌, ◌≤◌, List, Some, length, OnOk, IfOk, IfErr, IsSortedByKey, IsPermutation};
+ghost use Rattle.std.specs.Cmp.Lexicographic.{slice_cmp};
+ghost use Rattle.std.specs.List.{All};
+ghost use Rattle.std.specs.Ordering.{nat_cmp};
+ghost use Rattle.gdb_index_format.specs.Named.{all_named, names_in, AreNamesOf, AnswersAll, HasFewSteps};
+ghost use Rattle.gdb_index_format.specs.Published.{Pair};
+ghost use Rattle.gdb_index_format.specs.Units.{index_units};
+ghost use Rattle.gdb_index_format.specs.Version.{index_version};
+ghost use Rattle.gdb_index.specs.Layout.{IsLayoutOf};
+ghost use Rattle.gdb_index.specs.Size.{IsIndexSize, scan_counts};
+ghost use Rattle.gdb_scan.specs.Cause.{IsRefusedFor, IsOnlyMemory};
+ghost use Rattle.gdb_scan.specs.declared.error.GdbError.{GdbError as GdbError_spec};
+ghost use Rattle.gdb_scan.specs.declared.error.GdbError.TheVariants.{NoMemory};
+ghost use Rattle.gdb_tables.specs.Files.{file_bytes, ArePlacedIn};
+ghost use Rattle.gdb_tables.specs.Index.{IsIndexOf, AreRelocated, IsBuildCause};
+ghost use Rattle.gdb_tables.specs.Sized.{SizesIndex, IsIndexable};
+
+use crate::addresses::build_address_entries;
+use crate::sizing::compute_gdb_index_size;
+use elf_view::File;
+use elf_words::ElfClass;
+use gdb_index::{GdbIndexScanResult, INDEX_VERSION, write_gdb_index};
+use gdb_index_format::{AddressEntry, CuBoundary, NameWords, Placement};
+use gdb_scan::GdbError;
+use std::alloc::{AllocError, Global};
+
+/// The index of some objects.
+#[derive(Debug, Drop)]
+pub struct IndexTables<'a> {
+    /// The units of all objects, in input order. Each offset, in bytes, is the sum of the lengths before it.
+    pub units: Vec<CuBoundary>,
+    /// The published names in ascending byte order, each with its CU vector.
+    pub names: Vec<NameWords<'a>>,
+    /// The bytes of `.gdb_index`: none without a unit.
+    pub index: Vec<u8>,
+}
+
+/// Sorts names by their bytes.
+fn sort_names(names: &mut Vec<NameWords<'_>>) -> Result<(), AllocError>
+    ensures sorted { OnOk result (IsSortedByKey (λ n. n.name.now) (slice_cmp nat_cmp) names.new.items) }
+    ensures same { IsPermutation names.old.items names.new.items }
+{
+    names.sort_by_key(|named| named.name)?;
+    Ok(())
+}
+
+/// Returns the bytes of the index of a scan, of this size.
+fn index_bytes(
+    alloc: Global,
+    size: u32,
+    scan: &GdbIndexScanResult<'_>,
+    addresses: &[AddressEntry],
+) -> Result<Vec<u8>, AllocError>
+    requires room { IsIndexSize INDEX_VERSION (scan_counts scan.now) size }
+    requires some { 1 ≤ size }
+    requires addresses { length addresses.now ≤ scan.now.placed }
+    ensures size { IfOk result (λ v. length v.items ≡ size) }
+    ensures layout { IfOk result (λ v. IsLayoutOf INDEX_VERSION scan.now addresses.now v.items) }
+    ensures units { IfOk result (λ v. index_units v.items ≡ scan.now.units) }
+    ensures steps { IfOk result (λ v. HasFewSteps v.items (names_in scan.now.names)) }
+    ensures published { IfOk result (λ v. (ps : List Pair) → AreNamesOf ps scan.now.names → AnswersAll v.items ps) }
+{
+    let mut index = vec![in alloc; 0u8; size as usize]?;
+    write_gdb_index(&mut index, scan, addresses);
+    Ok(index)
+}
+
+/// Returns the index of a scan, of this size.
+fn written<'a>(
+    alloc: Global,
+    size: u32,
+    scan: GdbIndexScanResult<'a>,
+    addresses: &[AddressEntry],
+) -> Result<IndexTables<'a>, AllocError>
+    requires room { IsIndexSize INDEX_VERSION (scan_counts scan) size }
+    requires some { 1 ≤ size }
+    requires addresses { length addresses.now ≤ scan.placed }
+    ensures size { IfOk result (λ t. length t.index.items ≡ size) }
+    ensures layout { IfOk result (λ t. IsLayoutOf INDEX_VERSION scan.entry addresses.now t.index.items) }
+    ensures listed { IfOk result (λ t. index_units t.index.items ≡ scan.entry.units) }
+    ensures steps { IfOk result (λ t. HasFewSteps t.index.items (names_in scan.entry.names)) }
+    ensures published { IfOk result (λ t. (ps : List Pair) → AreNamesOf ps scan.entry.names → AnswersAll t.index.items ps) }
+    ensures units { IfOk result (λ t. t.units.items ≡ scan.entry.units) }
+    ensures names { IfOk result (λ t. IsPermutation scan.entry.names (all_named t.names.items)) }
+    ensures sorted { IfOk result (λ t. IsSortedByKey (λ n. n.name.now) (slice_cmp nat_cmp) t.names.items) }
+{
+    let index = index_bytes(alloc, size, &scan, addresses)?;
+    let (units, mut names) = scan.into_parts();
+    sort_names(&mut names)?;
+    Ok(IndexTables {
+        units,
+        names,
+        index,
+    })
+}
+
+/// Builds the index of the objects whose scan this is, of this size.
+fn tables_of_scan<'a, C: ElfClass>(
+    alloc: Global,
+    files: &[File<'a, C>],
+    placements: &[Placement],
+    size: u32,
+    scan: GdbIndexScanResult<'a>,
+) -> Result<IndexTables<'a>, GdbError>
+    requires few { length files.now < 2 ^ 24 }
+    requires small { All (λ file. length file.bytes < 2 ^ 39) files.now }
+    requires placements { ArePlacedIn C.class (file_bytes files.now) placements.now }
+    requires sized { SizesIndex INDEX_VERSION C.class (file_bytes files.now) placements.now size (Some scan) }
+    requires room { IsIndexSize INDEX_VERSION (scan_counts scan) size }
+    requires indexable { IsIndexable index_version C.class (file_bytes files.now) placements.now }
+    ensures index { IfOk result (λ t. IsIndexOf C.class files.now placements.now t.units.items t.names.items t.index.items) }
+    ensures relocated { OnOk result (AreRelocated C.class files.now) }
+    ensures cause { IfErr result (IsBuildCause C.class files.now placements.now) }
+{
+    let addresses = match build_address_entries(alloc, files, &scan, placements) {
+        Ok(addresses) => addresses,
+        Err(error) => return Err(error),
+    };
+    match written(alloc, size, scan, &addresses) {
+        Ok(tables) => Ok(tables),
+        Err(_) => Err(GdbError::NoMemory),
+    }
+}
+
+/// Builds the index of all objects. Without a unit it has no bytes.
+///
+/// The errors, in this order: those of `compute_gdb_index_size`; `BadElf`, as `build_address_entries` returns it.
+/// `NoMemory` may come for any objects, and is the only error for objects whose index has a size of at most
+/// 4,294,967,295 bytes and whose relocations are read.
+///
+/// Requires fewer than 2^24 files, each of fewer than 2^39 bytes, and placements that ascend by object and section, name
+/// objects and sections that exist, and whose ends fit 64 bits.
+pub fn build_index<'a, C: ElfClass>(
+    alloc: Global,
+    files: &[File<'a, C>],
+    placements: &[Placement],
+) -> Result<IndexTables<'a>, GdbError>
+    requires few { length files.now < 2 ^ 24 }
+    requires small { All (λ file. length file.bytes < 2 ^ 39) files.now }
+    requires placements { ArePlacedIn C.class (file_bytes files.now) placements.now }
+    ensures index { IfOk result (λ t. IsIndexOf C.class files.now placements.now t.units.items t.names.items t.index.items) }
+    ensures indexable { OnOk result (IsIndexable index_version C.class (file_bytes files.now) placements.now) }
+    ensures relocated { OnOk result (AreRelocated C.class files.now) }
+    ensures cause { IfErr result (IsBuildCause C.class files.now placements.now) }
+    ensures exact { (e : GdbError_spec) → IsBuildCause C.class files.now placements.now e → e ≢ NoMemory → IsRefusedFor result e }
+    ensures complete { IsIndexable index_version C.class (file_bytes files.now) placements.now → AreRelocated C.class files.now → IfErr result IsOnlyMemory }
+{
+    match compute_gdb_index_size(alloc, files, placements) {
+        Ok((size, Some(scan))) => {
+            match tables_of_scan(alloc, files, placements, size, scan) {
+                Ok(tables) => Ok(tables),
+                Err(error) => Err(error),
+            }
+        }
+        Ok((_, None)) => Ok(IndexTables {
+            units: Vec::new(alloc),
+            names: Vec::new(alloc),
+            index: Vec::new(alloc),
+        }),
+        Err(error) => Err(error),
+    }
+}

@@ -1,0 +1,131 @@
+//! The index as bytes (GDB manual, "Index Section Format"): hashes, slots, elements, sizes and lookups.
+
+ghost use Rattle.std.specs.Prelude.{◌≡◌, ◌<◌};
+
+use gdb_tables::{
+    BadIndex, IndexCounts, IndexTooLarge, Steps, checked_index_size, compute_hash_table_slots,
+    encode_cu_vector_entry, gdb_hash, index_size, lookup,
+};
+use std::marker::Brand;
+use std::sync::ledger::{Blank, Ledger};
+
+/// The element of a CU vector for a global function of CU 0.
+const FUNCTION: u32 = 0x3000_0000;
+
+/// An index of one unit and no names.
+const NO_NAME: [u8; 52] = [
+    9, 0, 0, 0, 28, 0, 0, 0, 44, 0, 0, 0, 44, 0, 0, 0, 44, 0, 0, 0, 44, 0, 0, 0, 52, 0, 0, 0, 0, 0,
+    0, 0, 0, 0, 0, 0, 12, 0, 0, 0, 0, 0, 0, 0, 0, 0, 0, 0, 0, 0, 0, 0,
+];
+
+/// An index of one unit and the name `main`.
+const ONE_NAME: [u8; 81] = [
+    9, 0, 0, 0, 28, 0, 0, 0, 44, 0, 0, 0, 44, 0, 0, 0, 44, 0, 0, 0, 60, 0, 0, 0, 68, 0, 0, 0, 0, 0,
+    0, 0, 0, 0, 0, 0, 12, 0, 0, 0, 0, 0, 0, 0, 0, 0, 0, 0, 0, 0, 0, 0, 8, 0, 0, 0, 0, 0, 0, 0, 0,
+    0, 0, 0, 0, 0, 0, 0, 1, 0, 0, 0, 0, 0, 0, 48, 109, 97, 105, 110, 0,
+];
+
+/// An index of one unit and the names `main` and `MAIN`, which have one hash.
+const TWO_NAMES: [u8; 110] = [
+    9, 0, 0, 0, 28, 0, 0, 0, 44, 0, 0, 0, 44, 0, 0, 0, 44, 0, 0, 0, 76, 0, 0, 0, 84, 0, 0, 0, 0, 0,
+    0, 0, 0, 0, 0, 0, 12, 0, 0, 0, 0, 0, 0, 0, 0, 0, 0, 0, 0, 0, 0, 0, 16, 0, 0, 0, 0, 0, 0, 0, 21,
+    0, 0, 0, 8, 0, 0, 0, 0, 0, 0, 0, 0, 0, 0, 0, 0, 0, 0, 0, 0, 0, 0, 0, 1, 0, 0, 0, 0, 0, 0, 48,
+    1, 0, 0, 0, 0, 0, 0, 48, 109, 97, 105, 110, 0, 77, 65, 73, 78, 0,
+];
+
+/// An index of one unit and the name `main`, which is published twice.
+const TWO_WORDS: [u8; 85] = [
+    9, 0, 0, 0, 28, 0, 0, 0, 44, 0, 0, 0, 44, 0, 0, 0, 44, 0, 0, 0, 60, 0, 0, 0, 68, 0, 0, 0, 0, 0,
+    0, 0, 0, 0, 0, 0, 12, 0, 0, 0, 0, 0, 0, 0, 0, 0, 0, 0, 0, 0, 0, 0, 12, 0, 0, 0, 0, 0, 0, 0, 0,
+    0, 0, 0, 0, 0, 0, 0, 2, 0, 0, 0, 0, 0, 0, 48, 0, 0, 0, 48, 109, 97, 105, 110, 0,
+];
+
+#[test]
+fn hashes_slots_and_elements(rt: HostRuntime) {
+    let hashes: [(&[u8], u32); 5] = [
+        (b"", 0),
+        (b"a", 4_294_967_280),
+        (b"main", 4_293_691_881),
+        (b"Main", 4_293_691_881),
+        (b"foo", 4_294_917_781),
+    ];
+    for (name, hash) in hashes {
+        assert_eq!(rt; gdb_hash(name), hash);
+    }
+    for (names, slots) in [(0, 0), (1, 2), (2, 4), (3, 8)] {
+        assert_eq!(rt; compute_hash_table_slots(names), slots);
+    }
+    assert_eq!(rt; encode_cu_vector_entry(5, 0x30), 0x3000_0005);
+    assert_eq!(rt; encode_cu_vector_entry(42, 0xb0), 0xb000_002a);
+}
+
+#[test]
+fn sizes_have_a_limit(rt: HostRuntime) {
+    let mut counts = IndexCounts {
+        units: 1,
+        placed: 0,
+        names: 0,
+        words: 0,
+        name_bytes: 4_294_967_243,
+    };
+    assert_eq!(rt; checked_index_size(&counts), Ok(4_294_967_295));
+    counts.name_bytes = 4_294_967_244;
+    assert_eq!(rt;
+        checked_index_size(&counts),
+        Err(IndexTooLarge(4_294_967_296))
+    );
+    counts.units = 0;
+    assert_eq!(rt; index_size(&counts), 0);
+}
+
+/// Returns the number of elements that a lookup finds, and the last of them.
+fn find<L: Ledger>(
+    index: &[u8],
+    name: &[u8],
+    blank: Blank,
+) -> Result<Option<(usize, u32)>, BadIndex>
+    requires name { blank.name ≡ L.name }
+    requires parts { blank.parts ≡ L.parts }
+    requires some { 0 < blank.parts }
+{
+    let mut steps = Steps::<L>::new(blank);
+    let Some(vector) = lookup(index, name, &mut steps)? else {
+        return Ok(None);
+    };
+    let count = vector.len();
+    if count == 0 {
+        return Ok(None);
+    }
+    Ok(vector.get(count - 1).map(|element| (count, element)))
+}
+
+#[test]
+fn lookups_find_names(rt: HostRuntime) {
+    let rows: [(&[u8], &[u8], Option<(usize, u32)>); 6] = [
+        (&NO_NAME, b"main", None),
+        (&ONE_NAME, b"main", Some((1, FUNCTION))),
+        (&ONE_NAME, b"m", None),
+        (&TWO_NAMES, b"MAIN", Some((1, FUNCTION))),
+        (&TWO_NAMES, b"foo", None),
+        (&TWO_WORDS, b"main", Some((2, FUNCTION))),
+    ];
+    for (index, name, found) in rows {
+        assert_eq!(rt; find::<Brand>(index, name, Blank::new(1)), Ok(found));
+    }
+}
+
+#[test]
+fn malformed_indexes_are_refused(rt: HostRuntime) {
+    let faults: [(usize, u8, BadIndex); 5] = [
+        (0, 7, BadIndex::Version),
+        (4, 27, BadIndex::Offsets),
+        (20, 61, BadIndex::Slots),
+        (55, 0x7f, BadIndex::NameOutside),
+        (71, 0xff, BadIndex::VectorOutside),
+    ];
+    for (at, byte, fault) in faults {
+        let mut index = ONE_NAME;
+        index[at] = byte;
+        assert_eq!(rt; find::<Brand>(&index, b"main", Blank::new(1)), Err(fault));
+    }
+}
