@@ -30,3 +30,9 @@ returns-in-Err-clause-exact g c = λ e cause some. told_build g.C.ElfClass.class
 
 pub returns-in-Err-clause-complete : goal.returns-in-Err-clause-complete
 returns-in-Err-clause-complete g c = λ index relocated. only_build_memory g.C.ElfClass.class c.args.files.now c.args.placements.now c.in-Err.error index relocated (in_size c.in-Err.ensures.cause)
+
+pub returns-in-Err-tables_of_scan-clause-exact : goal.returns-in-Err-tables_of_scan-clause-exact
+returns-in-Err-tables_of_scan-clause-exact g c = λ e cause some. told_build g.C.ElfClass.class c.args.files.now c.args.placements.now c.in-Err-tables_of_scan.error e c.in-Err-tables_of_scan.ensures.cause cause some
+
+pub returns-in-Err-tables_of_scan-clause-complete : goal.returns-in-Err-tables_of_scan-clause-complete
+returns-in-Err-tables_of_scan-clause-complete g c = λ index relocated. only_build_memory g.C.ElfClass.class c.args.files.now c.args.placements.now c.in-Err-tables_of_scan.error index relocated c.in-Err-tables_of_scan.ensures.cause

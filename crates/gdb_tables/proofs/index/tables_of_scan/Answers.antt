@@ -1,6 +1,9 @@
 use Rattle.std.proofs.Common.{◌∙◌, Some}
 use Rattle.gdb_tables.proofs.BuildCauses.{address_cause}
 use Rattle.gdb_tables.proofs.Indexing.{indexed}
+use Rattle.gdb_index_format.specs.Published.{unit_lists}
+use Rattle.gdb_index_format.proofs.ObjectLists.{units_of_objects}
+use Rattle.gdb_tables.specs.Files.{file_bytes}
 use Rattle.gdb_tables.specs.Index.{in_size}
 use Rattle.gdb_tables.specs.Sized.{no_memory}
 use Rattle.gdb_tables.proofs.index.tables_of_scan.Goals as goal
@@ -16,3 +19,8 @@ returns-in-Ok-written-clause-index g c =
 
 pub returns-clause-cause : goal.returns-clause-cause
 returns-clause-cause g c = in_size no_memory
+
+pub build_address_entries-requires-clause-scanned : goal.build_address_entries-requires-clause-scanned
+build_address_entries-requires-clause-scanned g c =
+    let sized = c.requires.sized in
+    (unit_lists sized.objects, units_of_objects g.C.ElfClass.class (file_bytes c.args.files.now) sized.objects sized.held, sized.scanned.own)
