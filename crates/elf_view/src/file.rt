@@ -33,8 +33,8 @@ use crate::version::are_versions_well_formed;
 use elf_format::{Architecture, ElfError};
 use elf_relocs::RelocationList;
 use elf_words::{
-    ElfClass, FileHeaderFields, Record, Records, SHF_COMPRESSED, SectionHeaderFields, SectionIndex,
-    SymFields, SymbolIndex,
+    ElfClass, FileHeaderFields, Record, Records, SHF_COMPRESSED, SHN_LORESERVE, SHN_XINDEX,
+    SectionHeaderFields, SectionIndex, SymFields, SymbolIndex,
 };
 use std::alloc::Global;
 use std::marker::Model;
@@ -248,8 +248,8 @@ impl<'a, C: ElfClass> File<'a, C> {
         ensures { IsSymbolSection (section_of_symbol C.class self.now.is_dynamic self.now.bytes (C.Sym.contents symbol.now) index.0) result }
     {
         let section = match symbol.st_shndx() {
-            section @ 0..0xff00 => usize::from(section),
-            0xffff => match self.section_indexes.get(index.0) {
+            section @ 0..SHN_LORESERVE => usize::from(section),
+            SHN_XINDEX => match self.section_indexes.get(index.0) {
                 Some(entry) => entry.index(),
                 None => return Err(ElfError::SymbolIndex),
             },
