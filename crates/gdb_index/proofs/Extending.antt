@@ -1,4 +1,4 @@
--- Bytes that are written one behind another.
+-- Bytes that are written one after another.
 use Rattle.std.proofs.Common.{◌≡◌, ℕ, ◌+◌, ◌<◌, ◌≤◌, List, [], ◌∷◌, ◌++◌, length, take, get_or, refl, sym, ap, subst, ◌∙◌, arith, append_assoc}
 use Rattle.std.specs.List.{flat_map}
 use Rattle.std.proofs.lemmas.List.{length-append, append-nil, take_all, take_more}
@@ -40,7 +40,7 @@ vectors_len-more ns i d item l is = (sum_by_more vector_len ns i d l ∙ ap (λ 
 pub names_len-more : (ns : List Named) (i : ℕ) (d item : Named) → i < length ns → item ≡ get_or ns i d → (names_len (take (i + 1) ns) ≡ names_len (take i ns) + name_len item) × (names_len (take (i + 1) ns) ≤ names_len ns)
 names_len-more ns i d item l is = (sum_by_more name_len ns i d l ∙ ap (λ (x : Named). names_len (take i ns) + name_len x) (sym is), sum_by-take-le name_len ns (i + 1))
 
--- parts that were written one behind another, to the end
+-- parts that were written one after another, to the end
 pub eight_parts : (b0 b1 b2 b3 b4 b5 b6 b7 b8 : List ℕ) (e1 e2 e3 e4 e5 e6 e7 : ℕ) (h u a t z v n r : List ℕ) → Extends b0 b1 0 h → e1 ≡ length h → Extends b1 b2 e1 u → e2 ≡ e1 + length u → Extends b2 b3 e2 a → e3 ≡ e2 + length a → Extends b3 b4 e3 t → e4 ≡ e3 + length t → Extends b4 b5 e4 z → e5 ≡ e4 + length z → Extends b5 b6 e5 v → e6 ≡ e5 + length v → Extends b6 b7 e6 n → e7 ≡ e6 + length n → Extends b7 b8 e7 r → length b0 ≡ e7 + length r → b8 ≡ h ++ u ++ a ++ t ++ z ++ v ++ n ++ r
 eight_parts b0 b1 b2 b3 b4 b5 b6 b7 b8 e1 e2 e3 e4 e5 e6 e7 h u a t z v n r p1 l1 p2 l2 p3 l3 p4 l4 p5 l5 p6 l6 p7 l7 p8 whole =
     let k2 = length-append h u in

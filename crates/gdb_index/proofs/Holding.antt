@@ -26,7 +26,7 @@ pub record HoldsNames (b : List ℕ) (ns : List Named) : Type 0 where
   pub names : (i : ℕ) (d : Named) → i < length ns → string_at b (pool_at b + name_offset ns i) ≡ Some (get_or ns i d).name
   pub vectors : (i : ℕ) (d : Named) → i < length ns → vector_at b (pool_at b + vector_offset ns i) ≡ Ok (Some (get_or ns i d).words)
 
--- The probe finds name i, with its words, within i + 1 steps.
+-- The probe finds name i, with its CU vector, within i + 1 steps.
 pub record Finds (b : List ℕ) (ns : List Named) (i : ℕ) (d : Named) : Type 0 where
   pub answer : (probe b (get_or ns i d).name).answer ≡ Ok (Some (get_or ns i d).words)
   pub steps : (probe b (get_or ns i d).name).steps ≤ i + 1

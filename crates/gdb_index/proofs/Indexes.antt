@@ -16,7 +16,7 @@ use Rattle.gdb_index.specs.Scan.{Scan, IsWellFormedScan}
 use Rattle.gdb_index.specs.Table.{Slot, free_slot, table_bytes}
 use Rattle.gdb_index.specs.Pool.{vectors_len, names_len, vector_offset, name_offset}
 use Rattle.gdb_index.specs.Filled.{IsFilled}
-use Rattle.gdb_index.specs.Layout.{u32s_bytes, unit_bytes, address_bytes, vector_bytes, name_bytes, AreUnits, addresses_offset, table_offset, shortcuts_offset, pool_offset, header, IsLayoutOf}
+use Rattle.gdb_index.specs.Layout.{u32s_bytes, unit_bytes, address_bytes, vector_bytes, name_bytes, AreUnits, addresses_offset, hash_table_offset, shortcuts_offset, pool_offset, header_numbers, IsLayoutOf}
 use Rattle.gdb_index.specs.Answers.{AnswersFor}
 use Rattle.gdb_index.proofs.Standing.{StandsAt, StandsAt-left, StandsAt-right, StandsAt-within, StandsAt-item, u32_at-words, vector_at-stands, string_at-stands}
 use Rattle.gdb_index.proofs.SlotLists.{length-table, slot_stands}
@@ -31,15 +31,15 @@ use Rattle.gdb_index.proofs.Answering.{answers_every}
 -- ---- where the parts stand
 
 record Parts (b : List ℕ) (s : Scan) (addresses : List AddressEntry) (slots : ℕ) (table : List Slot) : Type 0 where
-  head : StandsAt b 0 (u32s_bytes (header 9 (length s.units) (length addresses) slots))
+  head : StandsAt b 0 (u32s_bytes (header_numbers 9 (length s.units) (length addresses) slots))
   units : StandsAt b 28 (flat_map unit_bytes s.units)
-  slots_stand : StandsAt b (table_offset 9 (length s.units) (length addresses)) (table_bytes table)
+  slots_stand : StandsAt b (hash_table_offset 9 (length s.units) (length addresses)) (table_bytes table)
   vectors : StandsAt b (pool_offset 9 (length s.units) (length addresses) slots) (flat_map vector_bytes s.names)
   names : StandsAt b (pool_offset 9 (length s.units) (length addresses) slots + vectors_len s.names) (flat_map name_bytes s.names)
 
 parts_of : (b : List ℕ) (s : Scan) (xs : List AddressEntry) (i : IsLayoutOf 9 s xs b) → Parts b s xs i.slots i.table
 parts_of b s xs i =
-    let h = u32s_bytes (header 9 (length s.units) (length xs) i.slots) in
+    let h = u32s_bytes (header_numbers 9 (length s.units) (length xs) i.slots) in
     let u = flat_map unit_bytes s.units in
     let a = flat_map address_bytes xs in
     let t = table_bytes i.table in
@@ -75,11 +75,11 @@ parts_of b s xs i =
 
 -- ---- what is read of them
 
-header_word : (b : List ℕ) (s : Scan) (xs : List AddressEntry) (slots : ℕ) (table : List Slot) (p : Parts b s xs slots table) (k v : ℕ) → k < 7 → get_or (header 9 (length s.units) (length xs) slots) k 0 ≡ v → v < 2 ^ 32 → u32_at b (0 + 4 * k) ≡ v
+header_word : (b : List ℕ) (s : Scan) (xs : List AddressEntry) (slots : ℕ) (table : List Slot) (p : Parts b s xs slots table) (k v : ℕ) → k < 7 → get_or (header_numbers 9 (length s.units) (length xs) slots) k 0 ≡ v → v < 2 ^ 32 → u32_at b (0 + 4 * k) ≡ v
 header_word b s xs slots table p k v l is fits =
-    u32_at-words b 0 (header 9 (length s.units) (length xs) slots) k 0 l (omega (arith, is)) p.head ∙ is
+    u32_at-words b 0 (header_numbers 9 (length s.units) (length xs) slots) k 0 l (omega (arith, is)) p.head ∙ is
 
-header_is : (b : List ℕ) (s : Scan) (xs : List AddressEntry) (slots : ℕ) (table : List Slot) → length b < 2 ^ 32 → Parts b s xs slots table → IsHeader b 28 (addresses_offset 9 (length s.units)) (addresses_offset 9 (length s.units)) (table_offset 9 (length s.units) (length xs)) (shortcuts_offset 9 (length s.units) (length xs) slots) (pool_offset 9 (length s.units) (length xs) slots)
+header_is : (b : List ℕ) (s : Scan) (xs : List AddressEntry) (slots : ℕ) (table : List Slot) → length b < 2 ^ 32 → Parts b s xs slots table → IsHeader b 28 (addresses_offset 9 (length s.units)) (addresses_offset 9 (length s.units)) (hash_table_offset 9 (length s.units) (length xs)) (shortcuts_offset 9 (length s.units) (length xs) slots) (pool_offset 9 (length s.units) (length xs) slots)
 header_is b s xs slots table small p =
     let ends : pool_offset 9 (length s.units) (length xs) slots ≤ length b = omega (arith, StandsAt-within b (pool_offset 9 (length s.units) (length xs) slots) (flat_map vector_bytes s.names) p.vectors) in
     record {
@@ -87,7 +87,7 @@ header_is b s xs slots table small p =
       o1 = header_word b s xs slots table p 1 28 (omega arith) refl (omega arith);
       o2 = header_word b s xs slots table p 2 (addresses_offset 9 (length s.units)) (omega arith) refl (omega arith);
       o3 = header_word b s xs slots table p 3 (addresses_offset 9 (length s.units)) (omega arith) refl (omega arith);
-      o4 = header_word b s xs slots table p 4 (table_offset 9 (length s.units) (length xs)) (omega arith) refl (omega arith);
+      o4 = header_word b s xs slots table p 4 (hash_table_offset 9 (length s.units) (length xs)) (omega arith) refl (omega arith);
       o5 = header_word b s xs slots table p 5 (shortcuts_offset 9 (length s.units) (length xs) slots) (omega arith) refl (omega arith);
       o6 = header_word b s xs slots table p 6 (pool_offset 9 (length s.units) (length xs) slots) (omega arith) refl (omega arith);
       begins = omega arith;
@@ -115,9 +115,9 @@ count_of_none : (n slots : ℕ) → IsSlotCount n slots → n ≡ 0 → slots �
 count_of_none zero slots c e = c
 count_of_none (suc n) slots c e = absurd (omega arith)
 
--- an index is sound, and its table has its slots
+-- an index is well formed, and its table has its slots
 record Reads (b : List ℕ) (s : Scan) (xs : List AddressEntry) (slots : ℕ) : Type 0 where
-  is : IsHeader b 28 (addresses_offset 9 (length s.units)) (addresses_offset 9 (length s.units)) (table_offset 9 (length s.units) (length xs)) (shortcuts_offset 9 (length s.units) (length xs) slots) (pool_offset 9 (length s.units) (length xs) slots)
+  is : IsHeader b 28 (addresses_offset 9 (length s.units)) (addresses_offset 9 (length s.units)) (hash_table_offset 9 (length s.units) (length xs)) (shortcuts_offset 9 (length s.units) (length xs) slots) (pool_offset 9 (length s.units) (length xs) slots)
   long : 28 ≤ length b
   sound : index_fault b ≡ None
   count : slot_count b ≡ slots
@@ -129,7 +129,7 @@ reads b s xs small i =
     record {
       is = h;
       long = omega (arith, h.begins, h.first, h.second, h.third, h.fourth, h.fifth, h.ends);
-      sound = is_sound b 28 (addresses_offset 9 (length s.units)) (addresses_offset 9 (length s.units)) (table_offset 9 (length s.units) (length xs)) (shortcuts_offset 9 (length s.units) (length xs) i.slots) (pool_offset 9 (length s.units) (length xs) i.slots) i.slots h refl (power_or_none (length s.names) i.slots i.counted);
+      sound = is_sound b 28 (addresses_offset 9 (length s.units)) (addresses_offset 9 (length s.units)) (hash_table_offset 9 (length s.units) (length xs)) (shortcuts_offset 9 (length s.units) (length xs) i.slots) (pool_offset 9 (length s.units) (length xs) i.slots) i.slots h refl (power_or_none (length s.names) i.slots i.counted);
       count = omega (arith, h.o4, h.o5);
     }
 
@@ -144,7 +144,7 @@ holds_names b s xs small good some i =
     let r = reads b s xs small i in
     let pool = pool_offset 9 (length s.units) (length xs) i.slots in
     let pool_is : pool_at b ≡ pool = r.is.o6 in
-    let table_is : table_at b ≡ table_offset 9 (length s.units) (length xs) = r.is.o4 in
+    let table_is : table_at b ≡ hash_table_offset 9 (length s.units) (length xs) = r.is.o4 in
     let pool_end : pool + vectors_len ns + names_len ns ≤ length b = omega (arith, length-names_within b (pool + vectors_len ns) ns p.names) in
     let fit = slots_fit i.table i.slots ns i.filled (omega (arith, pool_end)) in
     record {
@@ -156,7 +156,7 @@ holds_names b s xs small good some i =
       filled = subst (λ m. IsFilled i.table m ns) (sym r.count) i.filled;
       slots = λ k l.
           let within : k < length i.table = omega (arith, l, r.count, i.filled.len) in
-          let read = slot_stands b (table_offset 9 (length s.units) (length xs)) i.table k free_slot within (fit k free_slot within) p.slots_stand in
+          let read = slot_stands b (hash_table_offset 9 (length s.units) (length xs)) i.table k free_slot within (fit k free_slot within) p.slots_stand in
           record { name = ap (λ n. u32_at b (n + 8 * k)) table_is ∙ read.0; vector = ap (λ n. u32_at b (n + 8 * k + 4)) table_is ∙ read.1 };
       names = λ k d l.
           ap (string_at b) (ap (λ n. n + name_offset ns k) pool_is ∙ omega (arith, sum_of_names (take k ns)))

@@ -15,7 +15,7 @@ use Rattle.gdb_index.specs.Laws.{HashIgnoresCase, SlotsExceedNames, IndexesAreOn
 use Rattle.gdb_index.specs.Scan.{Scan}
 use Rattle.gdb_index.specs.Table.{Slot, free_slot, table_bytes}
 use Rattle.gdb_index.specs.Filled.{IsFirstUnused, IsFilledTo, IsFilled, slot_for}
-use Rattle.gdb_index.specs.Layout.{u32s_bytes, header, unit_bytes, address_bytes, vector_bytes, name_bytes}
+use Rattle.gdb_index.specs.Layout.{u32s_bytes, header_numbers, unit_bytes, address_bytes, vector_bytes, name_bytes}
 use Rattle.gdb_index.proofs.Filling.{contains_or_lacks}
 
 -- ---- the hash
@@ -102,7 +102,7 @@ one_table ts us slots ns p q =
 
 abbrev front : ℕ → Scan → List AddressEntry → ℕ → List Slot → List ℕ
 front version s xs slots table =
-    u32s_bytes (header version (length s.units) (length xs) slots) ++ flat_map unit_bytes s.units ++ flat_map address_bytes xs ++ table_bytes table ++ replicate (shortcut_len version) 0 ++ flat_map vector_bytes s.names ++ flat_map name_bytes s.names
+    u32s_bytes (header_numbers version (length s.units) (length xs) slots) ++ flat_map unit_bytes s.units ++ flat_map address_bytes xs ++ table_bytes table ++ replicate (shortcut_len version) 0 ++ flat_map vector_bytes s.names ++ flat_map name_bytes s.names
 
 same_rest : (x y : List ℕ) (m n : ℕ) → x ≡ y → length (x ++ replicate m 0) ≡ length (y ++ replicate n 0) → x ++ replicate m 0 ≡ y ++ replicate n 0
 same_rest x y m n same len =

@@ -1,4 +1,4 @@
--- A header whose offsets are in order, with a table of none or a power of two of slots, is sound.
+-- A header whose offsets are in order, with a table of none or a power of two of slots, is well formed.
 use Rattle.std.proofs.Common.{◌≡◌, ◌⊎◌, ℕ, zero, suc, ◌+◌, ◌-◌, ◌*◌, ◌/◌, ◌%◌, ◌^◌, ◌≤◌, Bool, true, false, cond, eqb, leb, List, length, Some, None, refl, ap, ◌∙◌, arith, inl, inr}
 use Rattle.std.specs.Prelude.{◌&&◌, ◌||◌, not}
 use Rattle.std.specs.Int.{IsPowerOfTwo, is_power_of_two}
@@ -23,7 +23,7 @@ ones_of_power (suc k) =
 power_passes : (m : ℕ) → IsPowerOfTwo m → is_power_of_two m ≡ true
 power_passes m (k, is) = eq-eqb (ones m) 1 (ap ones is ∙ ones_of_power k)
 
--- the header's words, and what they must satisfy
+-- the header's numbers, and what they must satisfy
 pub record IsHeader (b : List ℕ) (units types addresses table shortcuts pool : ℕ) : Type 0 where
   pub version : u32_at b 0 ≡ 9
   pub o1 : u32_at b 4 ≡ units

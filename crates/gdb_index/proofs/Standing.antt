@@ -81,7 +81,7 @@ u64_of_bytes v fits = u64_is_sum (to_le_bytes w64 v) 0 ∙ omega (arith, low_hal
 pub u64_at-stands : (b : List ℕ) (at v : ℕ) → v < 2 ^ 64 → StandsAt b at (to_le_bytes w64 v) → u64_at b at ≡ v
 u64_at-stands b at v fits s = ap (u64_at b) (plain at) ∙ le-within b at (to_le_bytes w64 v) 0 8 s (omega arith) ∙ u64_of_bytes v fits
 
--- ---- words, names and vectors
+-- ---- numbers, names and vectors
 
 sum_of_fours : (ws : List ℕ) → sum_by (λ w. length (to_le_bytes w32 w)) ws ≡ 4 * length ws
 sum_of_fours [] = refl

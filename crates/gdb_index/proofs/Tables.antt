@@ -8,7 +8,7 @@ before : (a b : List ℕ) (at : ℕ) (xs : List ℕ) → Extends a b at xs → a
 before a b at xs p within =
     sym (take-take at (at + length xs) b (omega arith)) ∙ ap (take at) p.front ∙ take_at (take at a) xs at (length-take-le at a within)
 
--- a table written into the front of bytes that were split behind it
+-- a table written into the front of bytes that were split after it
 pub Extends-front : (a b front after behind table zeros : List ℕ) (at end : ℕ) → Extends a b at zeros → at ≤ end → end ≤ length b → front ≡ take end b → length after ≡ 0 → length table ≡ end - at → length behind + end ≡ length b
     → Extends a (take at front ++ (table ++ after) ++ behind) at table
 Extends-front a b front after behind table zeros at end p order within is none len rest =

@@ -35,19 +35,19 @@ name_bytes n = n.name ++ 0 ∷ []
 abbrev pub addresses_offset : ℕ → ℕ → ℕ
 addresses_offset version units = header_len version + 16 * units
 
-abbrev pub table_offset : ℕ → ℕ → ℕ → ℕ
-table_offset version units addresses = addresses_offset version units + 20 * addresses
+abbrev pub hash_table_offset : ℕ → ℕ → ℕ → ℕ
+hash_table_offset version units addresses = addresses_offset version units + 20 * addresses
 
 abbrev pub shortcuts_offset : ℕ → ℕ → ℕ → ℕ → ℕ
-shortcuts_offset version units addresses slots = table_offset version units addresses + 8 * slots
+shortcuts_offset version units addresses slots = hash_table_offset version units addresses + 8 * slots
 
 abbrev pub pool_offset : ℕ → ℕ → ℕ → ℕ → ℕ
 pool_offset version units addresses slots = shortcuts_offset version units addresses slots + shortcut_len version
 
 -- the version and the offsets of the parts: the types CU list begins where the address area does, so it is empty
-abbrev pub header : ℕ → ℕ → ℕ → ℕ → List ℕ
-header version units addresses slots =
-    version ∷ header_len version ∷ addresses_offset version units ∷ addresses_offset version units ∷ table_offset version units addresses
+abbrev pub header_numbers : ℕ → ℕ → ℕ → ℕ → List ℕ
+header_numbers version units addresses slots =
+    version ∷ header_len version ∷ addresses_offset version units ∷ addresses_offset version units ∷ hash_table_offset version units addresses
     ∷ shortcuts_offset version units addresses slots ∷ pool_offset version units addresses slots ∷ []
 
 -- The bytes are the index of a scan with these addresses: header, CU list, no types CU list, address area,
@@ -59,4 +59,4 @@ pub record IsLayoutOf (version : ℕ) (s : Scan) (addresses : List AddressEntry)
   pub table : List Slot
   pub filled : IsFilled table slots s.names
   pub saved : ℕ
-  pub bytes_are : b ≡ u32s_bytes (header version (length s.units) (length addresses) slots) ++ flat_map unit_bytes s.units ++ flat_map address_bytes addresses ++ table_bytes table ++ replicate (shortcut_len version) 0 ++ flat_map vector_bytes s.names ++ flat_map name_bytes s.names ++ replicate saved 0
+  pub bytes_are : b ≡ u32s_bytes (header_numbers version (length s.units) (length addresses) slots) ++ flat_map unit_bytes s.units ++ flat_map address_bytes addresses ++ table_bytes table ++ replicate (shortcut_len version) 0 ++ flat_map vector_bytes s.names ++ flat_map name_bytes s.names ++ replicate saved 0

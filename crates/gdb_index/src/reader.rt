@@ -1,4 +1,4 @@
-//! Looks a name up in the bytes of an index, by the probe of the format (GDB manual, "Index Section
+//! Finds a name in the bytes of an index, by the probe of the format (GDB manual, "Index Section
 //! Format").
 
 ghost use Rattle.std.specs.Prelude.{◌≡◌, ℕ, ◌+◌, ◌*◌, ◌<◌, ◌≤◌, ◌^◌, ◌==◌, length, Some, Err, MatchResult};

@@ -8,7 +8,7 @@ ghost use Rattle.gdb_index_format.specs.Units.{index_units};
 ghost use Rattle.gdb_index.specs.steps.Writes.{Extends};
 ghost use Rattle.gdb_index.specs.steps.FilledBytes.{ExtendsByTable};
 ghost use Rattle.gdb_index.specs.Pool.{vectors_len, names_len};
-ghost use Rattle.gdb_index.specs.Layout.{u32s_bytes, header, pool_offset, IsLayoutOf};
+ghost use Rattle.gdb_index.specs.Layout.{u32s_bytes, header_numbers, pool_offset, IsLayoutOf};
 ghost use Rattle.gdb_index.specs.Size.{IsIndexSize, scan_counts};
 ghost use Rattle.gdb_index.specs.Answers.{AnswersFor};
 
@@ -27,7 +27,7 @@ use gdb_index_format::{AddressEntry, NameWords};
 fn append_header(buf: &mut [u8], units: usize, addresses: usize, slots: usize) -> usize
     requires room { pool_offset INDEX_VERSION units addresses slots ≤ length buf.old }
     requires small { length buf.old < 2 ^ 32 }
-    ensures extends { Extends buf.old buf.new 0 (u32s_bytes (header INDEX_VERSION units addresses slots)) }
+    ensures extends { Extends buf.old buf.new 0 (u32s_bytes (header_numbers INDEX_VERSION units addresses slots)) }
     ensures end { result ≡ 28 }
 {
     let addresses_at = HEADER_LEN + 16 * units as u32;

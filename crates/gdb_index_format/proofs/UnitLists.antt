@@ -98,7 +98,7 @@ no_list b us at fault p q =
     let place : 0 + total_length q.units ≡ at = omega (arith, q.ends) in
     no_fault b at fault q.cause (subst (λ n. n + unit_length b n ≤ length b) place ends)
 
--- tilings that both end where the next unit would leave the bytes are the same
+-- tilings that both end where the next unit would end after the bytes are the same
 one_failing : (b : List ℕ) (at : ℕ) (us vs : List CuBoundary) → Tiles b at us → Tiles b at vs → at + total_length us ≤ length b → at + total_length vs ≤ length b → length b < at + total_length us + unit_length b (at + total_length us) → length b < at + total_length vs + unit_length b (at + total_length vs) → us ≡ vs
 one_failing b at [] [] p q within_us within_vs ends_us ends_vs = refl
 one_failing b at [] (v ∷ vs) p q within_us within_vs ends_us ends_vs = absurd (omega (arith, total_next v vs, q.1, ap (unit_length b) (plain at))) where

@@ -18,7 +18,7 @@ use Rattle.gdb_index_format.specs.Units.{unit_holding}
 abbrev pub relocation_header : Class → List ℕ → Option (List ℕ)
 relocation_header c file = option_and_then (slice_get (sections c file)) (section_of_name c file (codes ".rela.debug_info"))
 
--- its bytes leave the file, or are no whole records, or are these records
+-- its bytes are out of range, or are no whole records, or are these records
 abbrev pub whole_or_not : Option (List Crel) → Result (List Crel) ElfError
 whole_or_not None = Err RelocationTable
 whole_or_not (Some records) = Ok records
@@ -32,7 +32,7 @@ records_in c file None = Ok []
 records_in c file (Some header) = if get (sh_type c) header == sht_rela then records_or_not c (section_bytes c file header) else Ok []
 
 -- the relocations of an object's units: none where it has no section of that name, or one of another type than that
--- of records with addends
+-- of RELA records
 unfoldable pub unit_relocations : Class → List ℕ → Result (List Crel) ElfError
 unit_relocations c file = records_in c file (relocation_header c file)
 

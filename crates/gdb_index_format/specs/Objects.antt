@@ -37,7 +37,7 @@ abbrev pub is_pubnames_section : Class → List ℕ → List ℕ → Bool
 is_pubnames_section c file header =
     is_name (codes ".debug_gnu_pubnames") (section_name c file header) || is_name (codes ".debug_gnu_pubtypes") (section_name c file header)
 
--- the names sections in section order, each by its index and its header
+-- the pubnames sections in section order, each by its index and its header
 abbrev pub pubnames_sections : Class → List ℕ → List (ℕ × List ℕ)
 pubnames_sections c file = filter (λ s. is_pubnames_section c file s.1) (enumerate_from 0 (sections c file))
 
@@ -53,11 +53,11 @@ AreSetsOfSections c file [] ss = ss ≡ []
 AreSetsOfSections c file (s ∷ more) ss =
     (front : List NameSet) × (rest : List NameSet) × (ss ≡ front ++ rest) × AreSetsIn (section_bytes c file s.1) front × AreSetsOfSections c file more rest
 
--- the sets of all names sections of an object
+-- the sets of all pubnames sections of an object
 abbrev pub IsSetsOf : Class → List ℕ → List NameSet → Type 0
 IsSetsOf c file ss = AreSetsOfSections c file (pubnames_sections c file) ss
 
--- the sets that count: where there is no unit, no names section is read
+-- the sets that count: where there is no unit, no pubnames section is read
 abbrev pub AreSetsBeside : Class → List ℕ → List CuBoundary → List NameSet → Type 0
 AreSetsBeside c file [] ss = ss ≡ []
 AreSetsBeside c file (u ∷ us) ss = IsSetsOf c file ss
@@ -93,7 +93,7 @@ abbrev pub is_index : ℕ → Option ℕ → Bool
 is_index index None = false
 is_index index (Some found) = index == found
 
--- whether a section's bytes are read: the first `.debug_info`, and the names sections
+-- whether a section's bytes are read: the first `.debug_info`, and the pubnames sections
 abbrev pub is_read : Class → List ℕ → ℕ × List ℕ → Bool
 is_read c file s = is_index s.0 (info_section c file) || is_pubnames_section c file s.1
 

@@ -22,7 +22,7 @@ pub fn one_name_is_found()
     ensures absent { probe index_of_main (codes "m") ≡ record { answer = Ok None; steps = 1 } }
 {}
 
-/// Two names of one hash stand in slots of their own.
+/// Two names that collide have slots of their own.
 pub fn two_names_are_found()
     ensures size { length index_of_two ≡ 110 }
     ensures first { probe index_of_two (codes "main") ≡ record { answer = Ok (Some (0x30000000 ∷ [])); steps = 1 } }

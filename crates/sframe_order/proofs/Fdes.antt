@@ -1,4 +1,4 @@
--- Descriptors and rows of a sound contribution.
+-- FDEs and FREs of a well-formed contribution.
 use Rattle.std.proofs.Common.{◌≡◌, ℕ, ℤ, ◌+◌, ◌-◌, ◌<◌, ◌≤◌, List, length, take, drop, get_or, ap, ◌∙◌, arith}
 use Rattle.std.specs.List.{All, range_with_len, slice_range}
 use Rattle.std.specs.List.Sorted.{IsPermutation}

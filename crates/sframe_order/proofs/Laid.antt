@@ -17,7 +17,7 @@ use Rattle.sframe_order.proofs.Fdes.{range-range, same_function}
 use Rattle.sframe_order.proofs.Pieces.{fde_found, fres_found, field_start, field_size, field_before, field_info, start_read}
 use Rattle.sframe_order.proofs.Placed.{placed, length-start_fields, get_or-start_fields}
 
--- the contribution stands at the section's start, and has header fields, descriptors and rows for gs
+-- the contribution stands at the section's start, and has header fields, FDEs and FREs for gs
 pub record IsLaid (x : Contribution) (flags a : ℕ) (gs : List Function) : Type 0 where
   pub offset : x.offset ≡ 0
   pub flags_are : (header x).flags ≡ flags
@@ -38,7 +38,7 @@ at_place x flags a gs j laid = omega (arith, laid.aux_is, laid.fdes_from)
 pub fres_place : (x : Contribution) (flags a : ℕ) (gs : List Function) → IsLaid x flags a gs → fres_start x ≡ 28 + a + 20 * length gs
 fres_place x flags a gs laid = omega (arith, laid.aux_is, laid.fres_from)
 
--- a field of descriptor j, from byte `low` of it up to byte `high`
+-- a field of FDE j, from byte `low` of it up to byte `high`
 field_at : (x : Contribution) (flags a : ℕ) (gs : List Function) (j : ℕ) (g : Function) (low high from to : ℕ) → IsLaid x flags a gs → j < length gs → fde_at x j + low ≡ from → fde_at x j + high ≡ to → low ≤ high → high ≤ 20
     → slice_range x.bytes from to ≡ slice_range (placed flags (28 + a) gs (j, get_or gs j g)) low high
 field_at x flags a gs j g low high from to laid below p q h k =

@@ -129,6 +129,6 @@ told s rs (faults.AddressRange index value) other (readable, one, h) =
     ∙ ap (option_map (λ z. faults.AddressRange index z)) h.first.1)
 told s rs faults.NoMemory other h = absurd (other refl)
 
--- causes other than want of memory are the same one
+-- causes other than out of memory are the same one
 pub one_cause : (s : List ℕ) (rs : List Span) (e f : SframeFault) → e ≢ faults.NoMemory → f ≢ faults.NoMemory → IsSortCause s rs e → IsSortCause s rs f → e ≡ f
 one_cause s rs e f p q a b = let same : Some e ≡ Some f = sym (told s rs e p a) ∙ told s rs f q b in cc

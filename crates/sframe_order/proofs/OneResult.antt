@@ -96,7 +96,7 @@ no_span = record { start = 0; stop = 0 }
 found_no : {X : Type 0} (o : Option SframeFault) (e : SframeFault) → o ≡ None → o ≡ Some e → X
 found_no o e p q = cc
 
--- a valid section is refused for want of memory alone
+-- a valid section is refused for out of memory alone
 pub only_memory : (s : List ℕ) (rs : List Span) (e : SframeFault) → IsSortable s rs → IsSortCause s rs e → e ≡ faults.NoMemory
 only_memory s rs (faults.BadRange k) valid h = absurd (not_found (λ r. not (is_inside (length s) r)) rs k no_span (All-weaker (IsInside (length s)) (λ r. not (is_inside (length s) r) ≡ false) (inside_passes (length s)) rs valid.readable.ranges) h)
 only_memory s rs (faults.TooLarge kinds.Section needed limit) valid (inside, n, l, beyond) = absurd (omega (arith, valid.readable.size))

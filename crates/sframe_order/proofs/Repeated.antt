@@ -74,7 +74,7 @@ header_read : (h : Header) (a d r : List ℕ) → HeaderFits h → header_of (he
 header_read h a d r fits =
     ap header_of (append_assoc (header_bytes h ++ a) d r ∙ append_assoc (header_bytes h) a (d ++ r)) ∙ header_of-header_bytes h (a ++ (d ++ r)) fits
 
--- bytes of a header, auxiliary bytes, descriptors and rows
+-- bytes of a header, auxiliary bytes, FDEs and FREs
 again_laid : (x : Contribution) (h : Header) (aux : List ℕ) (flags a : ℕ) (gs : List Function) → x.offset ≡ 0 → x.bytes ≡ header_bytes h ++ aux ++ fdes flags (28 + a) gs ++ flat_map (λ (g : Function). g.fres) gs → HeaderFits h → h.flags ≡ flags → h.aux_len ≡ a → h.num_fdes ≡ length gs → h.fde_start_offset ≡ 0 → h.fre_start_offset ≡ 20 * length gs → length aux ≡ a
     → All IsWhole gs → All (FitsSigned w32) (start_fields flags (28 + a) gs) → fres_len gs < 2 ^ 32 → IsLaid x flags a gs
 again_laid x h aux flags a gs offset bytes fits flags_is aux_is count from fres_from len each fit small =

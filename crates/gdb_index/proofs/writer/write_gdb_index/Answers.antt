@@ -9,7 +9,7 @@ use Rattle.gdb_index_format.specs.Named.{Named, named, all_named}
 use Rattle.gdb_index.specs.Scan.{Scan}
 use Rattle.gdb_index.specs.Table.{Slot, table_bytes}
 use Rattle.gdb_index.specs.Filled.{IsFilled}
-use Rattle.gdb_index.specs.Layout.{header, u32s_bytes, unit_bytes, address_bytes, vector_bytes, name_bytes, AreUnits, IsLayoutOf}
+use Rattle.gdb_index.specs.Layout.{header_numbers, u32s_bytes, unit_bytes, address_bytes, vector_bytes, name_bytes, AreUnits, IsLayoutOf}
 use Rattle.gdb_index.proofs.Lengths.{length-units, length-addresses, length-vectors, length-names}
 use Rattle.gdb_index.proofs.SlotLists.{length-table}
 use Rattle.gdb_index.proofs.Rooms.{room_held}
@@ -19,7 +19,7 @@ use Rattle.gdb_index.proofs.Headline.{answers_all}
 use Rattle.gdb_index.proofs.writer.write_gdb_index.Goals as goal
 
 -- the layout, from the units and names as they are held to those of the scan
-index_is : (s : Scan) (units : List CuBoundary) (ns : List Named) (xs : List AddressEntry) (b : List ℕ) (slots saved : ℕ) (table : List Slot) → units ≡ s.units → ns ≡ s.names → IsSlotCount (length ns) slots → IsFilled table slots ns → b ≡ u32s_bytes (header 9 (length units) (length xs) slots) ++ flat_map unit_bytes units ++ flat_map address_bytes xs ++ table_bytes table ++ replicate 8 0 ++ flat_map vector_bytes ns ++ flat_map name_bytes ns ++ replicate saved 0 → IsLayoutOf 9 s xs b
+index_is : (s : Scan) (units : List CuBoundary) (ns : List Named) (xs : List AddressEntry) (b : List ℕ) (slots saved : ℕ) (table : List Slot) → units ≡ s.units → ns ≡ s.names → IsSlotCount (length ns) slots → IsFilled table slots ns → b ≡ u32s_bytes (header_numbers 9 (length units) (length xs) slots) ++ flat_map unit_bytes units ++ flat_map address_bytes xs ++ table_bytes table ++ replicate 8 0 ++ flat_map vector_bytes ns ++ flat_map name_bytes ns ++ replicate saved 0 → IsLayoutOf 9 s xs b
 index_is s units ns xs b slots saved table us named counts filled bytes = record {
   slots = slots;
   counted = subst (λ (n : List Named). IsSlotCount (length n) slots) named counts;
@@ -27,8 +27,8 @@ index_is s units ns xs b slots saved table us named counts filled bytes = record
   filled = subst (λ n. IsFilled table slots n) named filled;
   saved = saved;
   bytes_are = bytes
-      ∙ ap (λ (u : List CuBoundary). u32s_bytes (header 9 (length u) (length xs) slots) ++ flat_map unit_bytes u ++ flat_map address_bytes xs ++ table_bytes table ++ replicate 8 0 ++ flat_map vector_bytes ns ++ flat_map name_bytes ns ++ replicate saved 0) us
-      ∙ ap (λ (n : List Named). u32s_bytes (header 9 (length s.units) (length xs) slots) ++ flat_map unit_bytes s.units ++ flat_map address_bytes xs ++ table_bytes table ++ replicate 8 0 ++ flat_map vector_bytes n ++ flat_map name_bytes n ++ replicate saved 0) named;
+      ∙ ap (λ (u : List CuBoundary). u32s_bytes (header_numbers 9 (length u) (length xs) slots) ++ flat_map unit_bytes u ++ flat_map address_bytes xs ++ table_bytes table ++ replicate 8 0 ++ flat_map vector_bytes ns ++ flat_map name_bytes ns ++ replicate saved 0) us
+      ∙ ap (λ (n : List Named). u32s_bytes (header_numbers 9 (length s.units) (length xs) slots) ++ flat_map unit_bytes s.units ++ flat_map address_bytes xs ++ table_bytes table ++ replicate 8 0 ++ flat_map vector_bytes n ++ flat_map name_bytes n ++ replicate saved 0) named;
 }
 
 pub append_table-at-requires-clause-room : goal.append_table-at-requires-clause-room
@@ -82,7 +82,7 @@ returns-clause-layout c =
     let filled = c.append_table-at.ensures.extends in
     let room = room_held c.args.scan.now c.units-units.result.now c.names-names.result.now (length c.args.addresses.now) c.compute_hash_table_slots-slots.result (length c.args.buf.now) c.units-units.ensures.units c.names-names.ensures.names c.compute_hash_table_slots-slots.ensures c.requires.size c.requires.some c.requires.addresses in
     let len : length (table_bytes filled.table) ≡ 8 * slots = length-table filled.table ∙ ap (λ n. 8 * n) filled.filled.len in
-    let bytes = eight_parts _ _ _ _ _ _ _ _ _ _ _ _ _ _ _ _ (u32s_bytes (header 9 (length units) (length xs) slots)) (flat_map unit_bytes units) (flat_map address_bytes xs) (table_bytes filled.table) (replicate 8 0) (flat_map vector_bytes ns) (flat_map name_bytes ns) (replicate saved 0)
+    let bytes = eight_parts _ _ _ _ _ _ _ _ _ _ _ _ _ _ _ _ (u32s_bytes (header_numbers 9 (length units) (length xs) slots)) (flat_map unit_bytes units) (flat_map address_bytes xs) (table_bytes filled.table) (replicate 8 0) (flat_map vector_bytes ns) (flat_map name_bytes ns) (replicate saved 0)
     c.append_header-at.ensures.extends c.append_header-at.ensures.end
     c.append_units-at.ensures.extends (omega (arith, c.append_units-at.ensures.end, length-units units))
     c.append_addresses-at.ensures.extends (omega (arith, c.append_addresses-at.ensures.end, length-addresses xs))
