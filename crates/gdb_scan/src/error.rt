@@ -14,20 +14,20 @@ use thiserror::Error;
 pub enum GdbError {
     /// The bytes of a section of the object that is read are out of range (`SectionData`), or another of its ELF parts is
     /// malformed.
-    #[error("object {0} is a malformed ELF file")]
+    #[error("object {0} is a malformed ELF file: {1:?}")]
     BadElf(usize, ElfError),
     /// The section of the object is compressed: the lowest of those that are read and are compressed.
-    #[error("a section of object {0} is compressed")]
+    #[error("object {0}: {1:?} is compressed")]
     CompressedSection(usize, SectionIndex),
     /// At this offset of the object's `.debug_info`, in bytes from its start, no compilation unit (CU) begins.
-    #[error("the unit at {offset} of object {object} is malformed")]
+    #[error("the unit at {offset} of object {object} is malformed: {fault:?}")]
     BadUnit {
         object: usize,
         offset: u64,
         fault: UnitFault,
     },
     /// The `.debug_gnu_pubnames` or `.debug_gnu_pubtypes` section of the object is no list of sets.
-    #[error("a pubnames section of object {0} is malformed")]
+    #[error("object {0}: {1:?} holds no list of sets")]
     BadPubnames(usize, SectionIndex),
     /// So many units are more than the elements of a CU vector can number: above 16,777,216.
     #[error("there are {0} units, more than an index can number")]

@@ -9,7 +9,7 @@ use thiserror::Error;
 pub enum MapError {
     /// The relocations of the object's `.debug_info` are malformed: their bytes are out of range (`SectionData`), or no
     /// whole RELA records (`RelocationTable`), or a symbol or the index of its section is missing (`SymbolIndex`).
-    #[error("the relocations of the units are malformed")]
+    #[error("the relocations of the units are malformed: {0:?}")]
     Elf(ElfError),
     /// Out of memory.
     #[error("out of memory")]
