@@ -1,43 +1,17 @@
-//! Whole runs over files in memory: the report, the line on standard error, the exit status.
+//! Whole runs over files in memory that do not end well: the line on standard error, the exit status, and what is written.
 
 use crate::texts::arguments_of;
 use derive_program::{DeriveError, Ran, run};
 use elf_format::SectionIndex;
+use elf_words::{SHF_ALLOC, SHF_EXECINSTR};
 use program_io::{MemoryFiles, MemorySink};
 use sframe_format::LargeKind;
-use std::alloc::Global;
+use std::alloc::{AllocError, Global};
 use std::test::Fail;
-
-/// A unit of twelve bytes (DWARF 5, 7.5.1).
-const UNIT: [u8; 12] = [8, 0, 0, 0, 0, 0, 0, 0, 0, 0, 0, 0];
-
-/// The names of the sections of an object.
-const NAMES: &[u8] = b"\0.debug_info\0.debug_gnu_pubnames\0.text\0.shstrtab\0";
-
-/// The report of an object with one unit that publishes `main`, whose code was put at 4096, and of two contributions.
-const REPORT_OF_ALL: &str = "\
-units 1
-unit 0 0 12
-names 1
-name 6d61696e 30000000
-outcome sorted 74
-index 101
-090000001c0000002c0000002c00000040000000500000005800000000000000
-000000000c000000000000000010000000000000101000000000000000000000
-0000000000000000080000000000000000000000000000000100000000000030
-6d61696e00
-sframe 102
-e2de02010300f800020000000200000006000000000000002800000032000000
-1000000000000000010000000000000064000000100000000300000001000000
-00000000b1b2b3a1a2a300000000000000000000000000000000000000000000
-000000000000
-";
-
-/// The set that publishes `main` (GDB manual, "Index Section Format").
-const SET_OF_MAIN: &[u8] = b"\x18\0\0\0\x02\0\0\0\0\0\x0c\0\0\0\x2a\0\0\0\x30main\0\0\0\0\0";
+use test_objects::{UNIT, object, object_with_names, plain};
 
 /// Two contributions (SFrame 2), the later function first.
-const FRAMES: [u8; 102] = *b"\
+pub(crate) const FRAMES: [u8; 102] = *b"\
     \xe2\xde\x02\0\x03\0\xf8\0\x01\0\0\0\x01\0\0\0\x03\0\0\0\0\0\0\0\x14\0\0\0\
     \x64\0\0\0\x10\0\0\0\0\0\0\0\x01\0\0\0\0\0\0\0\xa1\xa2\xa3\
     \xe2\xde\x02\0\x03\0\xf8\0\x01\0\0\0\x01\0\0\0\x03\0\0\0\0\0\0\0\x14\0\0\0\
@@ -47,57 +21,31 @@ const FRAMES: [u8; 102] = *b"\
 const RANGES: &str = "range 0 51\nrange 51 102\n";
 
 /// The report of an object with one unit.
-const REPORT: &str =
+pub(crate) const REPORT: &str =
     "units 1\nunit 0 0 12\nnames 0\noutcome none\nindex 52\n090000001c0000002c0000002c0000002c0000002c0000003400000000000000\n000000000c000000000000000000000000000000\nsframe 0\n";
 
-/// Appends a section's bytes, and its header to the table (System V gABI, "Sections").
-fn push_section(
-    body: &mut Vec<u8>,
-    table: &mut Vec<u8>,
-    name: u32,
-    kind: u32,
-    flags: u64,
-    bytes: &[u8],
-) -> Result<(), Fail> {
-    let offset = (body.len() as u64).saturating_add(64);
-    table.extend_from_slice(&name.to_le_bytes())?;
-    table.extend_from_slice(&kind.to_le_bytes())?;
-    for number in [flags, 0, offset, bytes.len() as u64, 0, 1, 0] {
-        table.extend_from_slice(&number.to_le_bytes())?;
-    }
-    body.extend_from_slice(bytes)?;
-    Ok(())
-}
-
-/// An object with these bytes of `.debug_info` and of `.debug_gnu_pubnames`.
-fn object(
+/// Returns an object with these bytes of `.debug_info` and of `.debug_gnu_pubnames`, and 16 bytes of code.
+fn object_of(
     alloc: Global,
-    kind: u16,
+    file_type: u16,
     machine: u16,
     info: &[u8],
     names: &[u8],
-) -> Result<Vec<u8>, Fail> {
-    let mut body = Vec::new(alloc);
-    let mut table = vec![in alloc; 0u8; 64]?;
-    push_section(&mut body, &mut table, 1, 1, 0, info)?;
-    push_section(&mut body, &mut table, 13, 1, 0, names)?;
-    push_section(&mut body, &mut table, 33, 1, 6, &[0; 16])?;
-    push_section(&mut body, &mut table, 39, 3, 0, NAMES)?;
-    let mut object = b"\x7fELF\x02\x01\x01\0\0\0\0\0\0\0\0\0".to_vec(alloc)?;
-    object.extend_from_slice(&kind.to_le_bytes())?;
-    object.extend_from_slice(&machine.to_le_bytes())?;
-    object.extend_from_slice(&[1, 0, 0, 0])?;
-    object.extend_from_slice(&[0; 16])?;
-    let end = (body.len() as u64).saturating_add(64);
-    object.extend_from_slice(&end.to_le_bytes())?;
-    object.extend_from_slice(&[0, 0, 0, 0, 64, 0, 0, 0, 0, 0, 64, 0, 5, 0, 4, 0])?;
-    object.extend_from_slice(&body)?;
-    object.extend_from_slice(&table)?;
-    Ok(object)
+) -> Result<Vec<u8>, AllocError> {
+    object(
+        alloc,
+        file_type,
+        machine,
+        &[
+            plain(b".debug_info", 0, info),
+            plain(b".debug_gnu_pubnames", 0, names),
+            plain(b".text", SHF_ALLOC | SHF_EXECINSTR, &[0; 16]),
+        ],
+    )
 }
 
 /// Runs a line of arguments over these files: the line, the status, and what was written.
-fn outcome(
+pub(crate) fn outcome(
     alloc: Global,
     line: &str,
     texts: &[(&str, &[u8])],
@@ -117,39 +65,11 @@ fn outcome(
 }
 
 #[test]
-fn reports(rt: HostRuntime) -> Result<(), Fail> {
-    let alloc = rt.alloc();
-    let all = "# code and frames\nplace 0 3 4096 16\nrange 0 51\nrange 51 102\nbase 8192";
-    for (words, layout, names, report) in [
-        ("tables x86_64 l o", "", b"".as_slice(), REPORT),
-        (
-            "tables x86_64 l --sframe s o",
-            all,
-            SET_OF_MAIN,
-            REPORT_OF_ALL,
-        ),
-    ] {
-        let bytes = object(alloc, 1, 62, &UNIT, names)?;
-        let (text, status, written) = outcome(
-            alloc,
-            words,
-            &[("l", layout.as_bytes()), ("s", &FRAMES), ("o", &bytes)],
-            Vec::new(alloc),
-            Vec::new(alloc),
-        )?;
-        assert_eq!(rt; text.as_str(), "derive: Done");
-        assert_eq!(rt; status, 0);
-        assert_eq!(rt; written.as_slice(), report.as_bytes());
-    }
-    Ok(())
-}
-
-#[test]
 fn objects_without_tables(rt: HostRuntime) -> Result<(), Fail> {
     let alloc = rt.alloc();
     let cut = [255, 255, 255, 255, 0, 0, 0, 0];
     let long = [9, 0, 0, 0, 0, 0, 0, 0, 0, 0, 0, 0];
-    for (kind, machine, info, names, line) in [
+    for (file_type, machine, info, names, line) in [
         (
             1,
             62,
@@ -186,7 +106,7 @@ fn objects_without_tables(rt: HostRuntime) -> Result<(), Fail> {
             "derive: BadElf 0 Header",
         ),
     ] {
-        let bytes = object(alloc, kind, machine, info, names)?;
+        let bytes = object_of(alloc, file_type, machine, info, names)?;
         let (text, status, written) = outcome(
             alloc,
             "tables x86_64 l o",
@@ -212,7 +132,7 @@ fn frames_with(magic: [u8; 2], rows_at: u8) -> [u8; 102] {
 #[test]
 fn layouts_and_frames_without_tables(rt: HostRuntime) -> Result<(), Fail> {
     let alloc = rt.alloc();
-    let bytes = object(alloc, 1, 62, &UNIT, &[])?;
+    let bytes = object_with_names(alloc, &UNIT, &[])?;
     let twice = "place 0 3 4096 16\nplace 0 3 4096 16\n";
     let magic = [0xe2, 0xde];
     for (layout, magic, rows_at, line) in [
@@ -255,7 +175,7 @@ fn runs_that_fail(rt: HostRuntime) -> Result<(), Fail> {
             REPORT.len() / 2,
         ),
     ] {
-        let bytes = object(alloc, 1, 62, &UNIT, &[])?;
+        let bytes = object_with_names(alloc, &UNIT, &[])?;
         let reads = [read].to_vec(alloc)?;
         let puts = [put].to_vec(alloc)?;
         let texts: [(&str, &[u8]); 3] = [("l", b""), ("p", b"place 0 3 4096"), ("o", &bytes)];

@@ -1,4 +1,0 @@
-use Rattle.worked_examples.proofs.tables.placed_code.Given as goal
-
-abbrev pub ghosts-find : goal.ghosts-find
-ghosts-find g a = record { name = a.blank.name; parts = a.blank.parts }
