@@ -1,4 +1,4 @@
--- What is answered: valid input has tables, or memory was wanted; other input is refused for its cause.
+-- What is answered: valid input has tables, or memory ran out; other input is refused for its cause.
 use Rattle.std.proofs.Common.{◌≡◌, ◌⊎◌, inl, inr}
 use Rattle.derivation.specs.declared.error.DeriveError.{DeriveError}
 use Rattle.derivation.specs.declared.error.DeriveError.TheVariants.{NoMemory}
@@ -15,7 +15,7 @@ told input e f found cause =
       | inr other ↦ inl (one_refusal input f e other cause)
     ]
 
--- valid input is refused only for want of memory
+-- valid input is refused only for out of memory
 pub only_memory : (input : Input) (f : DeriveError) → (f ≡ NoMemory) ⊎ HasCause input f → IsValid input → f ≡ NoMemory
 only_memory input f found valid =
     elim found [

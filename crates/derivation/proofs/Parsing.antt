@@ -25,7 +25,7 @@ pub more_parsed : (buffer : List ℕ) (spans : List Span) (k : ℕ) (done items 
 more_parsed buffer spans k done items file below held one pushed =
     pushed ∙ ap (λ (fs : List Parsed). fs ++ file ∷ []) held ∙ ap (λ (f : Parsed). parsed_of buffer (take k spans) ++ f ∷ []) one ∙ sym (next_parsed buffer spans k below)
 
--- one more that is sound
+-- one more that is well formed
 pub more_sound : (expected : Architecture) (buffer : List ℕ) (spans : List Span) (k : ℕ) → k < length spans → AreObjects class64 expected (objects_of buffer (take k spans)) → None ≡ object_fault class64 expected (span_bytes buffer (get_or spans k no_span)) → AreObjects class64 expected (objects_of buffer (take (k + 1) spans))
 more_sound expected buffer spans k below done none =
     subst (AreObjects class64 expected) (sym (next_objects buffer spans k below))

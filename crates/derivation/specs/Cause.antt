@@ -64,7 +64,7 @@ IsRelocationCause input e = IsUnrelocated (parsed_of input.buffer input.objects)
 
 -- the error of the SFrame section, as an error of the tables
 abbrev pub of_sframe_fault : SframeFault → DeriveError
-of_sframe_fault (faults.BadRange place) = errors.BadRange place
+of_sframe_fault (faults.BadRange index) = errors.BadRange index
 of_sframe_fault (faults.BadMagic value offset) = errors.BadMagicBytes value offset
 of_sframe_fault (faults.Truncated kind offset) = errors.SframeTruncated kind offset
 of_sframe_fault (faults.TooLarge kind needed limit) = errors.SframeTooLarge kind needed limit

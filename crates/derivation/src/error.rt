@@ -16,24 +16,24 @@ pub enum DeriveError {
     BadSpan(usize),
     /// The object is malformed, not relocatable or for another machine; or the bytes of a section that is read are out of
     /// range, or the relocations of its CUs are malformed.
-    #[error("object {0} is no sound relocatable file of the machine")]
+    #[error("object {0} is no relocatable file of the machine: {1:?}")]
     BadElf(usize, ElfError),
     /// The placement of this index does not follow the one before it by object and section, names an object or a section
     /// that does not exist, or has an end that does not fit 64 bits.
     #[error("placement {0} is out of order, of no section, or ends too high")]
     BadPlacement(usize),
     /// This section of the object is compressed: the lowest of those that are read and are compressed.
-    #[error("a section of object {0} is compressed")]
+    #[error("object {0}: {1:?} is compressed")]
     CompressedSection(usize, SectionIndex),
     /// No compilation unit (CU) begins at this offset of the object's `.debug_info`.
-    #[error("the unit at {offset} of object {object} is not sound")]
+    #[error("the unit at {offset} of object {object} is malformed: {fault:?}")]
     BadUnit {
         object: usize,
         offset: u64,
         fault: UnitFault,
     },
     /// This `.debug_gnu_pubnames` or `.debug_gnu_pubtypes` of the object is not a list of sets.
-    #[error("a section of names of object {0} is not sound")]
+    #[error("object {0}: {1:?} holds no list of sets")]
     BadPubnames(usize, SectionIndex),
     /// The number of CUs, above 16,777,216: the CU vectors of an index cannot hold their indexes.
     #[error("there are {0} units, more than an index can number")]

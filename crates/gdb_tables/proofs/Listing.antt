@@ -1,4 +1,4 @@
--- Names with sorted words are those that are published.
+-- Names with sorted CU vectors are those that are published.
 use Rattle.std.proofs.Common.{◌≡◌, ◌≢◌, ◌⊎◌, Option, ℕ, zero, suc, ◌<◌, Bool, true, false, List, [], ◌∷◌, length, get_or, map, refl, sym, ap, ◌∙◌, subst, arith, inl, inr}
 use Rattle.std.specs.List.{All, filter}
 use Rattle.std.specs.List.Sorted.{IsPermutation}
@@ -15,7 +15,7 @@ use Rattle.gdb_scan.proofs.Grouping.{Name, same_from, eq_same, Lacks, Differ, Di
 use Rattle.gdb_scan.proofs.Pairing.{groups_alike, HaveSome, HaveSome-firsts}
 use Rattle.gdb_tables.proofs.Publishing.{as_pair, as_pairs, scans_published}
 
--- the values of a name among pairs are its words
+-- the values of a name among pairs are the elements of its CU vector
 pub words_are : (ps : List Pair) (name : Name) → values_of name (as_pairs ps) ≡ elements_in_order name ps
 words_are [] name = refl
 words_are (p ∷ ps) name =

@@ -50,7 +50,7 @@ one_of_total [] i s l is = absurd (omega arith)
 one_of_total (x ∷ ss) zero s l is = omega (arith, sum_next (length (units_in_scan x)) (unit_counts ss), ap (λ (y : Option ObjectScan). length (units_in_scan y)) is)
 one_of_total (x ∷ ss) (suc i) s l is = omega (arith, sum_next (length (units_in_scan x)) (unit_counts ss), one_of_total ss i s (omega arith) is)
 
--- ---- units one behind another
+-- ---- units one after another
 
 lengths-append : (xs ys : List CuBoundary) → total_length (xs ++ ys) ≡ total_length xs + total_length ys
 lengths-append [] ys = omega arith
@@ -63,21 +63,21 @@ placed-append at [] ys = ap (λ (n : ℕ). end_to_end n ys) (plain at) where
 placed-append at (x ∷ xs) ys =
     ap (λ us. record { offset = at; length = x.length } ∷ us) (placed-append (at + x.length) xs ys ∙ ap (λ (n : ℕ). end_to_end (at + x.length) xs ++ end_to_end n ys) (omega (arith, sum_by-cons (λ (u : CuBoundary). u.length) x xs)))
 
-pub unit_step : (done all : List CuBoundary) (place : ℕ) (us : List CuBoundary) (i : ℕ) (u : CuBoundary) → i < length us → u ≡ get_or us i u → done ++ end_to_end place (drop i us) ≡ all → (done ++ record { offset = place; length = u.length } ∷ []) ++ end_to_end (place + u.length) (drop (i + 1) us) ≡ all
-unit_step done all place us i u l is left =
-    append_assoc done (record { offset = place; length = u.length } ∷ []) (end_to_end (place + u.length) (drop (i + 1) us))
-    ∙ ap (λ x. done ++ x) (sym (ap (end_to_end place) (drop_more us i u l ∙ ap (λ (x : CuBoundary). x ∷ drop (i + 1) us) (sym is))))
+pub unit_step : (done all : List CuBoundary) (start : ℕ) (us : List CuBoundary) (i : ℕ) (u : CuBoundary) → i < length us → u ≡ get_or us i u → done ++ end_to_end start (drop i us) ≡ all → (done ++ record { offset = start; length = u.length } ∷ []) ++ end_to_end (start + u.length) (drop (i + 1) us) ≡ all
+unit_step done all start us i u l is left =
+    append_assoc done (record { offset = start; length = u.length } ∷ []) (end_to_end (start + u.length) (drop (i + 1) us))
+    ∙ ap (λ x. done ++ x) (sym (ap (end_to_end start) (drop_more us i u l ∙ ap (λ (x : CuBoundary). x ∷ drop (i + 1) us) (sym is))))
     ∙ left
 
-pub length_step : (place total : ℕ) (us : List CuBoundary) (i : ℕ) (u : CuBoundary) → i < length us → u ≡ get_or us i u → place + total_length (drop i us) ≡ total → place + u.length + total_length (drop (i + 1) us) ≡ total
-length_step place total us i u l is left =
+pub length_step : (start total : ℕ) (us : List CuBoundary) (i : ℕ) (u : CuBoundary) → i < length us → u ≡ get_or us i u → start + total_length (drop i us) ≡ total → start + u.length + total_length (drop (i + 1) us) ≡ total
+length_step start total us i u l is left =
     omega (arith, ap total_length (drop_more us i u l ∙ ap (λ (x : CuBoundary). x ∷ drop (i + 1) us) (sym is)), sum_by-cons (λ (x : CuBoundary). x.length) u (drop (i + 1) us), left)
 
-pub units_step : (done all : List CuBoundary) (place : ℕ) (ss : Scans) (i : ℕ) (s : Option ObjectScan) → i < length ss → s ≡ get_or ss i s → done ++ end_to_end place (units_in_scans (drop i ss)) ≡ all → (done ++ end_to_end place (units_in_scan s)) ++ end_to_end (place + total_length (units_in_scan s)) (units_in_scans (drop (i + 1) ss)) ≡ all
-units_step done all place ss i s l is left =
-    append_assoc done (end_to_end place (units_in_scan s)) (end_to_end (place + total_length (units_in_scan s)) (units_in_scans (drop (i + 1) ss)))
-    ∙ ap (λ x. done ++ x) (sym (placed-append place (units_in_scan s) (units_in_scans (drop (i + 1) ss))))
-    ∙ ap (λ x. done ++ end_to_end place x) (sym (ap units_in_scans (front ss i s l is)))
+pub units_step : (done all : List CuBoundary) (start : ℕ) (ss : Scans) (i : ℕ) (s : Option ObjectScan) → i < length ss → s ≡ get_or ss i s → done ++ end_to_end start (units_in_scans (drop i ss)) ≡ all → (done ++ end_to_end start (units_in_scan s)) ++ end_to_end (start + total_length (units_in_scan s)) (units_in_scans (drop (i + 1) ss)) ≡ all
+units_step done all start ss i s l is left =
+    append_assoc done (end_to_end start (units_in_scan s)) (end_to_end (start + total_length (units_in_scan s)) (units_in_scans (drop (i + 1) ss)))
+    ∙ ap (λ x. done ++ x) (sym (placed-append start (units_in_scan s) (units_in_scans (drop (i + 1) ss))))
+    ∙ ap (λ x. done ++ end_to_end start x) (sym (ap units_in_scans (front ss i s l is)))
     ∙ left
 
 pub length-placed : (at : ℕ) (us : List CuBoundary) → length (end_to_end at us) ≡ length us
@@ -93,7 +93,7 @@ unit_number_of ss = length-placed 0 (units_in_scans ss) ∙ length-units ss
 
 -- ---- names
 
--- the words of a name's marks, published at once
+-- the elements of a name's marks, published at once
 pub words_published : (first : ℕ) (g : Name × List Mark) (gs : List (Name × List ℕ)) → g.1 ≢ [] → add_all gs (words_at first g) ≡ add_list gs g.0 (map (mark_word first) g.1)
 words_published first g gs some = ap (add_all gs) (tagged_words first g.0 g.1) ∙ add_all-is_list gs g.0 (map (mark_word first) g.1) (λ none. some (no_marks g.1 none)) where
   tagged_words : (first : ℕ) (n : Name) (ms : List Mark) → words_at first (n, ms) ≡ map (λ w. (n, w)) (map (mark_word first) ms)
@@ -160,7 +160,7 @@ merges_more gs hs first n left rest count more ss s g is one units step here = r
   sound = sound_push g.done s g.sound here;
 }
 
--- where none is left, these are the names of all, and those of each are sound
+-- where none is left, these are the names of all, and those of each are well formed
 pub merges_sound : (gs : List (Name × List ℕ)) (first : ℕ) (left : Scans) (count : ℕ) (ss : Scans) → Merges gs first left count ss → count ≡ 0 → AllByRecursion HasSoundNames ss
 merges_sound gs first left count ss g none =
     subst (AllByRecursion HasSoundNames) (sym (append-nil g.done) ∙ sym (ap (λ xs. g.done ++ xs) (nil_from_length left (sym g.counted ∙ none))) ∙ g.parts) g.sound

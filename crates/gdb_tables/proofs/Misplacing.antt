@@ -9,14 +9,14 @@ use Rattle.elf_format.proofs.SearchLemmas.{position_is_from}
 use Rattle.gdb_index_format.specs.declared.placement.Placement.{Placement}
 use Rattle.gdb_scan.specs.PlacedIn.{IsBefore}
 use Rattle.gdb_tables.specs.Files.{IsThere, ArePlacedIn}
-use Rattle.gdb_tables.specs.Misplaced.{is_behind, is_there, is_in_place, with_before, misplaced}
+use Rattle.gdb_tables.specs.Misplaced.{follows, is_there, is_well_placed, with_before, misplaced}
 
--- the search among the placements from a place on, beside the one before
+-- the search among the placements from an index on, beside the one before
 abbrev pub misplaced_from : Class → List (List ℕ) → ℕ → Option Placement → List Placement → Option ℕ
-misplaced_from c files i before ps = position_from (λ w. not (is_in_place c files w)) i (with_before before ps)
+misplaced_from c files i before ps = position_from (λ w. not (is_well_placed c files w)) i (with_before before ps)
 
 pub from_the_first : (c : Class) (files : List (List ℕ)) (ps : List Placement) → misplaced c files ps ≡ misplaced_from c files 0 None ps
-from_the_first c files ps = position_is_from (λ w. not (is_in_place c files w)) (with_before None ps)
+from_the_first c files ps = position_is_from (λ w. not (is_well_placed c files w)) (with_before None ps)
 
 later : (test : Bool) (i : ℕ) (o : Option ℕ) → test ≡ true → cond (not test) (Some i) o ≡ o
 later true i o e = refl
@@ -24,14 +24,14 @@ later false i o e = cc
 
 -- ---- all of them
 
-abbrev IsBehind : Option Placement → Placement → Type 0
-IsBehind None p = Unit {0}
-IsBehind (Some before) p = IsBefore before p
+abbrev Follows : Option Placement → Placement → Type 0
+Follows None p = Unit {0}
+Follows (Some before) p = IsBefore before p
 
--- these placements may stand behind this one
+-- these placements may follow this one
 record Right (c : Class) (files : List (List ℕ)) (before : Option Placement) (ps : List Placement) : Type 0 where
   pub ascend : AllPairs IsBefore ps
-  pub behind : All (IsBehind before) ps
+  pub behind : All (Follows before) ps
   pub fit : All (λ p. p.address + p.size < 2 ^ 64) ps
   pub there : All (λ p. IsThere c (slice_get files p.object) p.section) ps
 
@@ -47,17 +47,17 @@ each_of true true false e = cc
 each_of true false z e = cc
 each_of false y z e = cc
 
-behind_is : (before : Option Placement) (p : Placement) → is_behind before p ≡ true → IsBehind before p
-behind_is None p e = tt
-behind_is (Some b) p e =
+follows_is : (before : Option Placement) (p : Placement) → follows before p ≡ true → Follows before p
+follows_is None p e = tt
+follows_is (Some b) p e =
     elim (one_of (ltb b.object p.object) (eqb b.object p.object) (ltb b.section p.section) e) [
       | inl lower ↦ inl (ltb-true _ _ lower)
       | inr same ↦ inr (eqb-true _ _ same.0, ltb-true _ _ same.1)
     ]
 
-is_behind_if : (before : Option Placement) (p : Placement) → IsBehind before p → is_behind before p ≡ true
-is_behind_if None p h = refl
-is_behind_if (Some b) p h = elim h [
+follows_if : (before : Option Placement) (p : Placement) → Follows before p → follows before p ≡ true
+follows_if None p h = refl
+follows_if (Some b) p h = elim h [
   | inl lower ↦ rw (lt-ltb b.object p.object lower) refl
   | inr same ↦ either (ltb b.object p.object) (eqb b.object p.object) (ltb b.section p.section) (eq-eqb b.object p.object same.0) (lt-ltb b.section p.section same.1)
 ] where
@@ -73,9 +73,9 @@ is_there_if : (c : Class) (file : Option (List ℕ)) (section : ℕ) → IsThere
 is_there_if c None section h = absurd h
 is_there_if c (Some file) section h = lt-ltb _ _ h
 
-behind_more : (before : Option Placement) (p q : Placement) → IsBehind before p → IsBefore p q → IsBehind before q
-behind_more None p q h l = tt
-behind_more (Some b) p q h l = elim h [
+follows_more : (before : Option Placement) (p q : Placement) → Follows before p → IsBefore p q → Follows before q
+follows_more None p q h l = tt
+follows_more (Some b) p q h l = elim h [
   | inl lower ↦ elim l [
     | inl less ↦ inl (omega arith)
     | inr same ↦ inl (omega (arith, same.0))
@@ -98,13 +98,13 @@ no_fault false i o e = cc
 right : (c : Class) (files : List (List ℕ)) (i : ℕ) (before : Option Placement) (ps : List Placement) → misplaced_from c files i before ps ≡ None → Right c files before ps
 right c files i before [] e = record { ascend = λ a b d l m. absurd (omega arith); behind = λ k d l. absurd (omega arith); fit = λ k d l. absurd (omega arith); there = λ k d l. absurd (omega arith) }
 right c files i before (p ∷ ps) e =
-    let both = no_fault (is_in_place c files (before, p)) i (misplaced_from c files (i + 1) (Some p) ps) e in
-    let parts = each_of (is_behind before p) (is_there c (slice_get files p.object) p.section) (ltb (p.address + p.size) (2 ^ 64)) both.0 in
-    let first = behind_is before p parts.0 in
+    let both = no_fault (is_well_placed c files (before, p)) i (misplaced_from c files (i + 1) (Some p) ps) e in
+    let parts = each_of (follows before p) (is_there c (slice_get files p.object) p.section) (ltb (p.address + p.size) (2 ^ 64)) both.0 in
+    let first = follows_is before p parts.0 in
     let rest = right c files (i + 1) (Some p) ps both.1 in
     record {
       ascend = AllPairs-cons IsBefore p ps rest.behind rest.ascend;
-      behind = All-more (IsBehind before) p ps first (λ k d l. behind_more before p (get_or ps k d) first (rest.behind k d l));
+      behind = All-more (Follows before) p ps first (λ k d l. follows_more before p (get_or ps k d) first (rest.behind k d l));
       fit = All-more (λ (q : Placement). q.address + q.size < 2 ^ 64) p ps (ltb-true _ _ parts.2) rest.fit;
       there = All-more (λ (q : Placement). IsThere c (slice_get files q.object) q.section) p ps (there_is c _ _ parts.1) rest.there;
     }
@@ -112,8 +112,8 @@ right c files i before (p ∷ ps) e =
 right_none : (c : Class) (files : List (List ℕ)) (i : ℕ) (before : Option Placement) (ps : List Placement) → Right c files before ps → misplaced_from c files i before ps ≡ None
 right_none c files i before [] h = refl
 right_none c files i before (p ∷ ps) h =
-    later (is_in_place c files (before, p)) i (misplaced_from c files (i + 1) (Some p) ps)
-    (each (is_behind before p) (is_there c (slice_get files p.object) p.section) (ltb (p.address + p.size) (2 ^ 64)) (is_behind_if before p (h.behind 0 p (omega arith))) (is_there_if c _ _ (h.there 0 p (omega arith))) (lt-ltb _ _ (h.fit 0 p (omega arith))))
+    later (is_well_placed c files (before, p)) i (misplaced_from c files (i + 1) (Some p) ps)
+    (each (follows before p) (is_there c (slice_get files p.object) p.section) (ltb (p.address + p.size) (2 ^ 64)) (follows_if before p (h.behind 0 p (omega arith))) (is_there_if c _ _ (h.there 0 p (omega arith))) (lt-ltb _ _ (h.fit 0 p (omega arith))))
     ∙ right_none c files (i + 1) (Some p) ps record {
       ascend = λ a b d l m. h.ascend (suc a) (suc b) d (omega arith) (omega arith);
       behind = λ k d l. h.ascend 0 (suc k) d (omega arith) (omega arith);

@@ -1,4 +1,4 @@
--- What is refused is refused for one cause, and what is sound for none.
+-- What is refused is refused for one cause, and what is well formed for none.
 use Rattle.std.proofs.Common.{◌≡◌, ◌≢◌, ◌⊎◌, ℕ, zero, suc, ◌<◌, ◌^◌, List, [], ◌∷◌, ◌++◌, length, take, Option, Some, None, Result, Ok, Err, IfErr, refl, sym, ap, subst, ◌∙◌, arith, inl, inr}
 use Rattle.std.specs.Prelude.{slice_get}
 use Rattle.std.proofs.lemmas.Bool.{cases_lt}
@@ -34,7 +34,7 @@ use Rattle.gdb_scan.proofs.OneCause.{memory_is, told, one_scan_cause}
 
 -- ---- several objects
 
--- the object at a place of sound files is sound
+-- the object at an index of well-formed files is well formed
 sound_at : (c : Class) (files : List (List ℕ)) (os : List Object) (k : ℕ) (file : List ℕ) → AreObjectsOf c files os → ArePlain c files → slice_get files k ≡ Some file → (o : Object) × IsObjectOf c file o × (first_compressed c file ≡ None)
 sound_at c [] [] zero file held plain there = absurd cc
 sound_at c [] [] (suc k) file held plain there = absurd cc
@@ -51,7 +51,7 @@ taken_at [] (suc n) k below = refl
 taken_at (x ∷ files) (suc n) zero below = refl
 taken_at (x ∷ files) (suc n) (suc k) below = taken_at files n k (omega (arith, below))
 
--- an object before the first that is at fault is not at fault
+-- an object before the first malformed one is well formed
 earlier : (c : Class) (files : List (List ℕ)) (e f : GdbError) (p : FirstBadObject c files e) (q : FirstBadObject c files f) → p.object < q.object → e ≡ NoMemory
 earlier c files e f p q below =
     let at = sound_at c (take q.object files) q.before p.object p.file q.held q.plain (taken_at files q.object p.object below ∙ p.there) in
@@ -60,8 +60,8 @@ earlier c files e f p q below =
 same_file : (files : List (List ℕ)) (i j : ℕ) (x y : List ℕ) → i ≡ j → slice_get files i ≡ Some x → slice_get files j ≡ Some y → x ≡ y
 same_file files i j x y same p q = same_bytes x y (sym p ∙ ap (slice_get files) same ∙ q)
 
-same_place : (c : Class) (files : List (List ℕ)) (e f : GdbError) (p : FirstBadObject c files e) (q : FirstBadObject c files f) → p.object ≡ q.object → e ≢ NoMemory → f ≢ NoMemory → e ≡ f
-same_place c files e f p q same a b =
+same_object : (c : Class) (files : List (List ℕ)) (e f : GdbError) (p : FirstBadObject c files e) (q : FirstBadObject c files f) → p.object ≡ q.object → e ≢ NoMemory → f ≢ NoMemory → e ≡ f
+same_object c files e f p q same a b =
     let file : p.file ≡ q.file = same_file files p.object q.object p.file q.file same p.there q.there in
     let left : IsScanCause c q.object q.file e = subst (λ (i : ℕ). IsScanCause c i q.file e) same (subst (λ (x : List ℕ). IsScanCause c p.object x e) file p.cause) in
     one_scan_cause c q.object q.file e f left q.cause a b
@@ -71,7 +71,7 @@ one_bad_object c files e f p q a b = elim (cases_lt p.object q.object) [
   | inl less ↦ absurd (a (earlier c files e f p q less))
   | inr ge ↦ elim (cases_lt q.object p.object) [
     | inl less ↦ absurd (b (earlier c files f e q p less))
-    | inr le ↦ same_place c files e f p q (omega (arith, ge, le)) a b
+    | inr le ↦ same_object c files e f p q (omega (arith, ge, le)) a b
   ]
 ]
 
@@ -83,7 +83,7 @@ one_files_cause c files e f files_spec.no_memory q a b = absurd (a refl)
 pub told_files : (c : Class) (files : List (List ℕ)) (f e : GdbError) → IsFilesCause c files f → IsFilesCause c files e → e ≢ NoMemory → (f ≡ e) ⊎ (f ≡ NoMemory)
 told_files c files f e found cause some = told (IsFilesCause c files) f e (one_files_cause c files) found cause some
 
--- where all objects are sound, none is at fault
+-- where all objects are well formed, none is malformed
 no_bad_object : (c : Class) (files : List (List ℕ)) (os : List Object) (e : GdbError) → AreObjectsOf c files os → ArePlain c files → FirstBadObject c files e → IsOnlyMemory e
 no_bad_object c files os e held plain p =
     let at = sound_at c files os p.object p.file held plain p.there in

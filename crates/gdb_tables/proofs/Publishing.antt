@@ -32,13 +32,13 @@ words_ungrouped first (g ∷ gs) =
     ∙ ap (λ ps. mapped (mark_word first) (tagged g) ++ ps) (words_ungrouped first gs)
     ∙ sym (map-append (λ (p : Name × Mark). (p.0, mark_word first p.1)) (tagged g) (ungrouped gs))
 
-entries_published : (first place : ℕ) (es : List Entry) → as_pairs (pairs_at (Some place) first es) ≡ mapped (mark_word first) (marks_at (Some place) es)
-entries_published first place [] = refl
-entries_published first place (e ∷ es) = ap (λ ps. (e.name, element_of (first + place) e.flag) ∷ ps) (entries_published first place es)
+entries_published : (first index : ℕ) (es : List Entry) → as_pairs (pairs_at (Some index) first es) ≡ mapped (mark_word first) (marks_at (Some index) es)
+entries_published first index [] = refl
+entries_published first index (e ∷ es) = ap (λ ps. (e.name, element_of (first + index) e.flag) ∷ ps) (entries_published first index es)
 
 set_published : (first : ℕ) (o : Option ℕ) (es : List Entry) → as_pairs (pairs_at o first es) ≡ mapped (mark_word first) (marks_at o es)
 set_published first None es = refl
-set_published first (Some place) es = entries_published first place es
+set_published first (Some index) es = entries_published first index es
 
 object_published : (first : ℕ) (us : List CuBoundary) (ss : List NameSet) → as_pairs (flat_map (pairs_of first us) ss) ≡ mapped (mark_word first) (marks_of us ss)
 object_published first us [] = refl

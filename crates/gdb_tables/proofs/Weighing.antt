@@ -72,8 +72,8 @@ weight_push os o = sum_by-append (λ (x : Object). sets_weight x.sets) os (o ∷
 
 pairs_short : (o : Option ℕ) (first : ℕ) (es : List Entry) → sum_by pair_weight (pairs_at o first es) ≤ sum_by entry_weight es
 pairs_short None first es = omega arith
-pairs_short (Some place) first [] = omega arith
-pairs_short (Some place) first (e ∷ es) = omega (arith, sum_by-cons entry_weight e es, sum_by-cons pair_weight (record { name = e.name; word = Rattle.gdb_index_format.specs.Hash.element_of (first + place) e.flag }) (pairs_at (Some place) first es), pairs_short (Some place) first es)
+pairs_short (Some index) first [] = omega arith
+pairs_short (Some index) first (e ∷ es) = omega (arith, sum_by-cons entry_weight e es, sum_by-cons pair_weight (record { name = e.name; word = Rattle.gdb_index_format.specs.Hash.element_of (first + index) e.flag }) (pairs_at (Some index) first es), pairs_short (Some index) first es)
 
 sets_publish : (first : ℕ) (us : List CuBoundary) (ss : List NameSet) → sum_by pair_weight (flat_map (pairs_of first us) ss) ≤ sets_weight ss
 sets_publish first us [] = omega arith

@@ -47,7 +47,7 @@ pub record ScansObjects (c : Class) (files : List (List ℕ)) (ps : List Placeme
   pub small : published_bytes objects ≤ length files * 2 ^ 73
   pub few : placed_total scans ≤ length files * 2 ^ 39
 
--- The first object that is not scanned, and why: those before it are sound.
+-- The first object that is not scanned, and why: those before it are well formed.
 pub record FirstBadObject (c : Class) (files : List (List ℕ)) (e : GdbError) : Type 0 where
   pub object : ℕ
   pub file : List ℕ
@@ -57,7 +57,7 @@ pub record FirstBadObject (c : Class) (files : List (List ℕ)) (e : GdbError) :
   pub plain : ArePlain c (take object files)
   pub cause : IsScanCause c object file e
 
--- why the objects are not scanned; want of memory needs no cause
+-- why the objects are not scanned; out of memory needs no cause
 pub data IsFilesCause (c : Class) (files : List (List ℕ)) : GdbError → Type 0 where
   in_object : (e : GdbError) → FirstBadObject c files e → IsFilesCause c files e
   no_memory : IsFilesCause c files NoMemory

@@ -21,7 +21,7 @@ AreSorted (g ∷ gs) (n ∷ ns) = (n.name ≡ g.0) × IsPermutation g.1 n.words 
 abbrev pub HaveSmallWords : List Named → Type 0
 HaveSmallWords ns = All (λ n. All (λ w. w < 2 ^ 32) n.words) ns
 
--- The units of all scans, one behind another, their names and words, and their counts.
+-- The units of all scans, one after another, their names and CU vectors, and their counts.
 pub record IsMergeOf (ss : List (Option ObjectScan)) (merged : Scan) : Type 0 where
   pub few : unit_total ss ≤ 2 ^ 24
   pub units : merged.units ≡ end_to_end 0 (units_in_scans ss)
@@ -29,7 +29,7 @@ pub record IsMergeOf (ss : List (Option ObjectScan)) (merged : Scan) : Type 0 wh
   pub placed : merged.placed ≡ placed_total ss
   pub names : ListsPublished (published_in_scans ss) merged.names
 
--- why scans are not merged: there are too many units; want of memory needs no cause
+-- why scans are not merged: there are too many units; out of memory needs no cause
 abbrev pub IsMergeCause : List (Option ObjectScan) → GdbError → Type 0
 IsMergeCause ss (BadElf i kind) = ⊥
 IsMergeCause ss (CompressedSection i s) = ⊥

@@ -5,25 +5,25 @@ use Rattle.elf_format.specs.Class.{Class}
 use Rattle.elf_format.specs.Section.{sections}
 use Rattle.gdb_index_format.specs.declared.placement.Placement.{Placement}
 
--- whether a placement stands behind the one before it, by object and then by section
-abbrev pub is_behind : Option Placement → Placement → Bool
-is_behind None p = true
-is_behind (Some before) p = nat_lt before.object p.object || before.object == p.object && nat_lt before.section p.section
+-- whether a placement follows the one before it, by object and then by section
+abbrev pub follows : Option Placement → Placement → Bool
+follows None p = true
+follows (Some before) p = nat_lt before.object p.object || before.object == p.object && nat_lt before.section p.section
 
 -- whether a section of an object is there
 abbrev pub is_there : Class → Option (List ℕ) → ℕ → Bool
 is_there c None section = false
 is_there c (Some file) section = nat_lt section (length (sections c file))
 
--- whether a placement, beside the one before it, may stand there: it is behind that one, its section is there,
+-- whether a placement, beside the one before it, may stand there: it follows that one, its section is there,
 -- and its end fits 64 bits
-abbrev pub is_in_place : Class → List (List ℕ) → Option Placement × Placement → Bool
-is_in_place c files w = is_behind w.0 w.1 && is_there c (slice_get files w.1.object) w.1.section && nat_lt (w.1.address + w.1.size) (2 ^ 64)
+abbrev pub is_well_placed : Class → List (List ℕ) → Option Placement × Placement → Bool
+is_well_placed c files w = follows w.0 w.1 && is_there c (slice_get files w.1.object) w.1.section && nat_lt (w.1.address + w.1.size) (2 ^ 64)
 
 -- each placement beside the one before it
 abbrev pub with_before : Option Placement → List Placement → List (Option Placement × Placement)
 with_before before ps = zip (before ∷ map (λ p. Some p) ps) ps
 
--- the first that may not stand where it does, by its place
+-- the first that may not stand where it does, by its index
 abbrev pub misplaced : Class → List (List ℕ) → List Placement → Option ℕ
-misplaced c files ps = position (λ w. not (is_in_place c files w)) (with_before None ps)
+misplaced c files ps = position (λ w. not (is_well_placed c files w)) (with_before None ps)

@@ -32,7 +32,7 @@ words_at first g = map (λ m. (g.0, mark_word first m)) g.1
 abbrev pub words_of_groups : ℕ → List (List ℕ × List Mark) → List (List ℕ × ℕ)
 words_of_groups first gs = flat_map (words_at first) gs
 
--- names with words, scan by scan
+-- names with elements, scan by scan
 abbrev pub words_from : ℕ → List (Option ObjectScan) → List (List ℕ × ℕ)
 words_from first [] = []
 words_from first (s ∷ ss) = words_of_groups first (names_in_scan s) ++ words_from (first + length (units_in_scan s)) ss
@@ -40,7 +40,7 @@ words_from first (s ∷ ss) = words_of_groups first (names_in_scan s) ++ words_f
 abbrev pub pair_in : List ℕ × ℕ → Pair
 pair_in p = record { name = p.0; word = p.1 }
 
--- all names of all scans, with their words
+-- all names of all scans, with their elements
 abbrev pub published_in_scans : List (Option ObjectScan) → List Pair
 published_in_scans ss = map pair_in (words_from 0 ss)
 

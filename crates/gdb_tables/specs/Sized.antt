@@ -13,7 +13,7 @@ use Rattle.gdb_scan.specs.declared.error.GdbError.TheVariants.{TooManyUnits, Ind
 use Rattle.gdb_tables.specs.Addresses.{IsScanOfUnits}
 use Rattle.gdb_tables.specs.Files.{ArePlain, FirstBadObject}
 
--- The units of all objects, their names and words, and their counts.
+-- The units of all objects, their names and CU vectors, and their counts.
 pub record IsScanOfAll (os : List Object) (count : ℕ) (scan : Scan) : Type 0 where
   pub some : 0 < length (units_of_all os)
   pub own : IsScanOfUnits (unit_lists os) count scan
@@ -44,7 +44,7 @@ pub record IsIndexable (version : ℕ) (c : Class) (files : List (List ℕ)) (ps
   pub fits : size < 2 ^ 32
 
 -- Why an index has no size: the first object that is not scanned, or objects that have too many units, or whose
--- index is too large. Want of memory needs no cause.
+-- index is too large. Out of memory needs no cause.
 pub data IsSizeCause (version : ℕ) (c : Class) (files : List (List ℕ)) (ps : List Placement) : GdbError → Type 0 where
   in_object : (e : GdbError) → FirstBadObject c files e → IsSizeCause version c files ps e
   too_many : (os : List Object) → AreObjectsOf c files os → ArePlain c files → 2 ^ 24 < length (units_of_all os) → IsSizeCause version c files ps (TooManyUnits (length (units_of_all os)))

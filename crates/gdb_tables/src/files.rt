@@ -16,7 +16,7 @@ use gdb_scan::{GdbError, PerObjectScan, scan_one_object};
 use std::alloc::Global;
 
 /// The scans of all objects, in input order. It is refused for the first object that is not scanned, as
-/// `scan_one_object` refuses it; where each can be scanned, for want of memory alone.
+/// `scan_one_object` refuses it; where each can be scanned, for out of memory alone.
 ///
 /// Each file has fewer than 2^39 bytes. The placements ascend by object and section, name objects and sections
 /// that are there, and their ends fit 64 bits.

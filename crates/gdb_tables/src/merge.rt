@@ -1,5 +1,5 @@
 //! The merge of all objects' scans: the units of all objects get their numbers, and the names of all objects
-//! their words.
+//! their CU vectors.
 
 ghost use Rattle.std.specs.Prelude.{◌≡◌, ℕ, List, ◌+◌, ◌*◌, ◌^◌, ◌<◌, ◌≤◌, ◌++◌, length, map, sum, OnOk, IfOk, IfErr};
 ghost use Rattle.std.specs.List.{All, AllByRecursion};
@@ -93,24 +93,24 @@ fn list_unit_counts(
     Ok(counts)
 }
 
-/// Adds an object's units from a place on, and says where they end.
-fn place_units(units: &mut Vec<CuBoundary>, at: u64, list: &[CuBoundary]) -> Result<u64, AllocError>
+/// Adds an object's units from an offset on, and returns where they end.
+fn add_units(units: &mut Vec<CuBoundary>, at: u64, list: &[CuBoundary]) -> Result<u64, AllocError>
     requires { at + total_length list.now < 2 ^ 64 }
     ensures units { OnOk result (units.new.items ≡ units.old.items ++ end_to_end at list.now) }
     ensures end { IfOk result (λ end. end ≡ at + total_length list.now) }
 {
-    let mut place = at;
+    let mut end = at;
     for unit in list {
         units.push(CuBoundary {
-            offset: place,
+            offset: end,
             length: unit.length,
         })?;
-        place += unit.length;
+        end += unit.length;
     }
-    Ok(place)
+    Ok(end)
 }
 
-/// The units of all objects, one behind another: so many.
+/// The units of all objects, one after another: so many.
 fn placed_units(
     alloc: Global,
     scans: &[Option<PerObjectScan<'_>>],
@@ -120,14 +120,14 @@ fn placed_units(
     ensures { IfOk result (λ units. units.items ≡ end_to_end 0 (units_in_scans scans.now)) }
 {
     let mut units = Vec::with_capacity(alloc, count)?;
-    let mut place = 0;
+    let mut end = 0;
     for scan in scans {
-        place = place_units(&mut units, place, units_of(scan))?;
+        end = add_units(&mut units, end, units_of(scan))?;
     }
     Ok(units)
 }
 
-/// The words of the marks of a name, where the object's first unit has the number `first`.
+/// The elements of the marks of a name, where the object's first unit has the number `first`.
 fn words_of(alloc: Global, first: u32, marks: &[Mark]) -> Result<Vec<u32>, AllocError>
     requires { All (λ m. first + m.unit < 2 ^ 24) marks.now }
     ensures { IfOk result (λ words. words.items ≡ map (mark_word first) marks.now) }
@@ -158,7 +158,7 @@ fn publish_scan<'a>(
     Ok(())
 }
 
-/// The words of each name, in input order. Each scan is given up as soon as its names are published.
+/// The elements of each name, in input order. Each scan is given up as soon as its names are published.
 fn gather_words<'a>(
     alloc: Global,
     scans: Vec<Option<PerObjectScan<'a>>>,
@@ -176,7 +176,7 @@ fn gather_words<'a>(
     Ok(names)
 }
 
-/// A name with its words in ascending order.
+/// A name with its CU vector in ascending order.
 fn sorted_name<'a>(name: &'a [u8], mut words: Vec<u32>) -> Result<NameWords<'a>, AllocError>
     ensures name { IfOk result (λ n. n.name.now ≡ name.now) }
     ensures same { IfOk result (λ n. IsPermutation words.items n.words.items) }
@@ -187,7 +187,7 @@ fn sorted_name<'a>(name: &'a [u8], mut words: Vec<u32>) -> Result<NameWords<'a>,
     Ok(NameWords { name, words })
 }
 
-/// All names, each with its words in ascending order.
+/// All names, each with its CU vector in ascending order.
 fn sorted_names<'a>(
     alloc: Global,
     names: IndexMap<&'a [u8], Vec<u32>>,
@@ -203,11 +203,11 @@ fn sorted_names<'a>(
     Ok(list)
 }
 
-/// The most units that the words of an index can number.
+/// The most units that the elements of a CU vector can number.
 const MAX_UNITS: u64 = 1 << 24;
 
 /// The merge of the scans of all objects, one scan per object, in input order: all units, each with an offset that
-/// sums the lengths of all units before it; the names in the order of first publication, each with its words in
+/// sums the lengths of all units before it; the names in the order of first publication, each with its CU vector in
 /// ascending order; and how many sections are placed. An object without a scan has no unit.
 ///
 /// `TooManyUnits`, with the number of all units, comes exactly where there are more than 16,777,216 of them;

@@ -5,15 +5,15 @@ ghost use Rattle.std.specs.Prelude.{◌≡◌, ℕ, List, None, slice_get};
 ghost use Rattle.elf_format.specs.Class.{Class};
 ghost use Rattle.gdb_index_format.specs.declared.placement.Placement.{Placement as Placement_spec};
 ghost use Rattle.gdb_tables.specs.Files.{file_bytes, ArePlacedIn};
-ghost use Rattle.gdb_tables.specs.Misplaced.{is_behind, is_there, is_in_place, misplaced};
+ghost use Rattle.gdb_tables.specs.Misplaced.{follows, is_there, is_well_placed, misplaced};
 
 use elf_view::File;
 use elf_words::ElfClass;
 use gdb_index_format::Placement;
 
-/// Whether a placement stands behind the one before it, by object and then by section.
-fn is_behind(before: Option<Placement>, placement: &Placement) -> bool
-    ensures { result ≡ Rattle.gdb_tables.specs.Misplaced.is_behind before placement.now }
+/// Whether a placement follows the one before it, by object and then by section.
+fn follows(before: Option<Placement>, placement: &Placement) -> bool
+    ensures { result ≡ Rattle.gdb_tables.specs.Misplaced.follows before placement.now }
 {
     match before {
         Some(before) => before.object < placement.object
@@ -32,20 +32,20 @@ fn is_there<C: ElfClass>(files: &[File<'_, C>], placement: &Placement) -> bool
     }
 }
 
-/// Whether a placement may stand behind the one before it.
-fn is_in_place<C: ElfClass>(
+/// Whether a placement may follow the one before it.
+fn is_well_placed<C: ElfClass>(
     files: &[File<'_, C>],
     before: Option<Placement>,
     placement: &Placement,
 ) -> bool
-    ensures { result ≡ Rattle.gdb_tables.specs.Misplaced.is_in_place C.class (file_bytes files.now) (before, placement.now) }
+    ensures { result ≡ Rattle.gdb_tables.specs.Misplaced.is_well_placed C.class (file_bytes files.now) (before, placement.now) }
 {
-    is_behind(before, placement)
+    follows(before, placement)
         && is_there(files, placement)
         && placement.address.checked_add(placement.size).is_some()
 }
 
-/// The first placement, by its place from 0, that is not as an index asks: it is not above the one before it, by
+/// The first placement, by its index from 0, that is not as an index asks: it is not above the one before it, by
 /// object and then by section, or its object or its section is not there, or its end does not fit 64 bits. None
 /// where all are.
 pub fn first_misplaced<C: ElfClass>(
@@ -57,7 +57,7 @@ pub fn first_misplaced<C: ElfClass>(
 {
     let mut before = None;
     for (index, placement) in placements.iter().enumerate() {
-        if !is_in_place(files, before, placement) {
+        if !is_well_placed(files, before, placement) {
             return Some(index);
         }
         before = Some(*placement);

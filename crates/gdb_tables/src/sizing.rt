@@ -21,7 +21,7 @@ use std::alloc::Global;
 /// How many bytes the index of all objects has, with the scan that it is written from: 0 and none exactly where
 /// there is no unit.
 ///
-/// The refusals, in this order: those of `scan_one_object` for the first object that is at fault; `TooManyUnits`
+/// The refusals, in this order: those of `scan_one_object` for the first object that is malformed; `TooManyUnits`
 /// exactly where all objects together have more than 16,777,216 units; `IndexTooLarge`, with the size, exactly
 /// where it is above 4,294,967,295. `NoMemory` may come at any objects, and alone at those whose index has a size
 /// of at most that.

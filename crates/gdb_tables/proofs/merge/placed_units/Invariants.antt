@@ -5,6 +5,6 @@ use Rattle.gdb_tables.proofs.merge.placed_units.Given as goal
 
 abbrev pub invariant-loop-scan : goal.invariant-loop-scan
 invariant-loop-scan l = record {
-  left : l.units.items ++ end_to_end l.place (units_in_scans (drop l.scan-index l.scans)) ≡ end_to_end 0 (units_in_scans l.scans);
-  small : l.place ≤ l.scan-index * 2 ^ 39;
+  left : l.units.items ++ end_to_end l.end (units_in_scans (drop l.scan-index l.scans)) ≡ end_to_end 0 (units_in_scans l.scans);
+  small : l.end ≤ l.scan-index * 2 ^ 39;
 }
