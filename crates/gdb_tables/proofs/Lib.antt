@@ -5,6 +5,7 @@ pub mod Publishing
 pub mod Listing
 pub mod Merging
 pub mod Scanning
+pub mod OneScans
 pub mod Weighing
 pub mod Adjoining
 pub mod Counting

@@ -20,7 +20,7 @@ use Rattle.gdb_index_format.specs.Placed.{is_counted}
 use Rattle.gdb_scan.specs.Scan.{ObjectScan, IsScanOf, placed_in_scan}
 use Rattle.gdb_tables.specs.Scans.{AreScansOf, placed_total}
 use Rattle.gdb_scan.specs.Scanned.{ScansObject, HasHeaderRoom}
-use Rattle.gdb_tables.specs.Files.{file_bytes, IsThere, ArePlacedIn, ArePlain, ScansObjects, FirstBadObject}
+use Rattle.gdb_tables.specs.Files.{file_bytes, IsThere, ArePlacedIn, ArePlain, AreFileScans, ScansObjects, FirstBadObject}
 
 -- how many placements count, object by object
 abbrev pub placed_from : Class → ℕ → List (List ℕ) → List Object → List Placement → ℕ
@@ -34,12 +34,13 @@ pub record Scanned (c : Class) (files : List (List ℕ)) (ps : List Placement) (
   pub held : AreObjectsOf c files objects
   pub plain : ArePlain c files
   pub scanned : AreScansOf objects scans
+  pub each : AreFileScans c ps 0 files scans
   pub placed : placed_total scans ≡ placed_from c 0 files objects ps
   pub small : objects_weight objects ≤ length files * 2 ^ 73
   pub few : placed_total scans ≤ length files * 2 ^ 39
 
 pub scanned_none : (c : Class) (ps : List Placement) (scans : List (Option ObjectScan)) → scans ≡ [] → Scanned c [] ps scans
-scanned_none c ps scans none = record { objects = []; held = tt; plain = tt; scanned = subst (AreScansOf []) (sym none) tt; placed = ap placed_total none; small = omega arith; few = omega (arith, ap placed_total none) }
+scanned_none c ps scans none = record { objects = []; held = tt; plain = tt; scanned = subst (AreScansOf []) (sym none) tt; each = subst (AreFileScans c ps 0 []) (sym none) tt; placed = ap placed_total none; small = omega arith; few = omega (arith, ap placed_total none) }
 
 -- ---- one object more
 
@@ -58,6 +59,16 @@ scans_push [] [] o s h is = (is, tt)
 scans_push [] (x ∷ ss) o s h is = absurd h
 scans_push (x ∷ os) [] o s h is = absurd h
 scans_push (x ∷ os) (y ∷ ss) o s h is = (h.0, scans_push os ss o s h.1 is)
+
+each_push : (c : Class) (ps : List Placement) (at : ℕ) (files : List (List ℕ)) (ss : List (Option ObjectScan)) (file : List ℕ) (s : Option ObjectScan) → AreFileScans c ps at files ss → ScansObject c file (at + length files) ps s → AreFileScans c ps at (files ++ file ∷ []) (ss ++ s ∷ [])
+each_push c ps at [] [] file s h one =
+    let here : at + 0 ≡ at = omega arith in
+    (subst (λ n. ScansObject c file n ps s) here one, tt)
+each_push c ps at [] (x ∷ ss) file s h one = absurd h
+each_push c ps at (f ∷ files) [] file s h one = absurd h
+each_push c ps at (f ∷ files) (x ∷ ss) file s h one =
+    let next : at + length (f ∷ files) ≡ at + 1 + length files = omega arith in
+    (h.0, each_push c ps (at + 1) files ss file s h.1 (subst (λ n. ScansObject c file n ps s) next one))
 
 placed_push : (c : Class) (at : ℕ) (files : List (List ℕ)) (os : List Object) (file : List ℕ) (o : Object) (ps : List Placement) → AreObjectsOf c files os → placed_from c at (files ++ file ∷ []) (os ++ o ∷ []) ps ≡ placed_from c at files os ps + cond (has_unit o.units) (placed_in c file (at + length files) ps) 0
 placed_push c at [] [] file o ps h = let same : at + 0 ≡ at = omega arith in rw same (omega arith)
@@ -85,6 +96,7 @@ scanned_more c files ps scans new file s object at pushed short own before one =
   held = held_push c files before.objects file one.held before.held one.is_object;
   plain = plain_push c files file before.plain one.plain;
   scanned = scans_push before.objects scans one.held s before.scanned one.is_scan;
+  each = each_push c ps 0 files scans file s before.each (subst (λ n. ScansObject c file n ps s) (at ∙ omega arith) one);
   placed =
       total_push scans s
       ∙ ap (λ n. n + placed_in_scan s) before.placed
@@ -177,7 +189,7 @@ placed_is c files os (p ∷ ps) h =
     ∙ sym (count_next (λ q. counts_in c (slice_get files q.object) (slice_get (unit_lists os) q.object) q) p ps)
 
 pub scans_objects : (c : Class) (files : List (List ℕ)) (ps : List Placement) (scans : List (Option ObjectScan)) → Scanned c files ps scans → ScansObjects c files ps scans
-scans_objects c files ps scans h = record { objects = h.objects; held = h.held; plain = h.plain; scanned = h.scanned; placed = h.placed ∙ placed_is c files h.objects ps h.held; small = omega (arith, h.small, published_weight 0 h.objects); few = h.few }
+scans_objects c files ps scans h = record { objects = h.objects; held = h.held; plain = h.plain; scanned = h.scanned; each = h.each; placed = h.placed ∙ placed_is c files h.objects ps h.held; small = omega (arith, h.small, published_weight 0 h.objects); few = h.few }
 
 -- ---- the files one by one
 

@@ -1,5 +1,5 @@
 -- What the scans of all objects say of their bytes.
-use Rattle.std.specs.Prelude.{◌≡◌, ℕ, ◌+◌, ◌*◌, ◌^◌, ◌<◌, ◌≤◌, List, length, map, take, slice_get, Option, Some, None}
+use Rattle.std.specs.Prelude.{◌≡◌, ℕ, ◌+◌, ◌*◌, ◌^◌, ◌<◌, ◌≤◌, List, [], ◌∷◌, length, map, take, slice_get, Option, Some, None}
 use Rattle.std.specs.List.{All, AllByRecursion, sum_by}
 use Rattle.elf_format.specs.Class.{Class}
 use Rattle.elf_format.specs.Section.{sections}
@@ -13,6 +13,7 @@ use Rattle.gdb_scan.specs.declared.error.GdbError.TheVariants.{NoMemory}
 use Rattle.gdb_scan.specs.Cause.{IsScanCause}
 use Rattle.gdb_scan.specs.PlacedIn.{ArePlacements}
 use Rattle.gdb_scan.specs.Scan.{ObjectScan}
+use Rattle.gdb_scan.specs.Scanned.{ScansObject}
 use Rattle.gdb_tables.specs.Scans.{AreScansOf, placed_total}
 
 abbrev pub file_bytes : List Parsed → List (List ℕ)
@@ -36,6 +37,13 @@ ArePlain c files = AllByRecursion (λ file. first_compressed c file ≡ None) fi
 abbrev pub published_bytes : List Object → ℕ
 published_bytes os = sum_by (λ p. length p.name + 2) (published os)
 
+-- each scan is that of the file beside it, as the object of its index; the first file has the index `at`
+abbrev pub AreFileScans : Class → List Placement → ℕ → List (List ℕ) → List (Option ObjectScan) → Type 0
+AreFileScans c ps at [] [] = Unit {0}
+AreFileScans c ps at [] (s ∷ ss) = ⊥
+AreFileScans c ps at (file ∷ files) [] = ⊥
+AreFileScans c ps at (file ∷ files) (s ∷ ss) = ScansObject c file at ps s × AreFileScans c ps (at + 1) files ss
+
 -- Files that hold objects, with the scans of these. Their number bounds what they
 -- publish, and how many of their sections are placed.
 pub record ScansObjects (c : Class) (files : List (List ℕ)) (ps : List Placement) (scans : List (Option ObjectScan)) : Type 0 where
@@ -43,6 +51,7 @@ pub record ScansObjects (c : Class) (files : List (List ℕ)) (ps : List Placeme
   pub held : AreObjectsOf c files objects
   pub plain : ArePlain c files
   pub scanned : AreScansOf objects scans
+  pub each : AreFileScans c ps 0 files scans
   pub placed : placed_total scans ≡ length (placed c files (unit_lists objects) ps)
   pub small : published_bytes objects ≤ length files * 2 ^ 73
   pub few : placed_total scans ≤ length files * 2 ^ 39

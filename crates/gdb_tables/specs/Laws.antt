@@ -13,10 +13,14 @@ use Rattle.gdb_index_format.specs.Version.{index_version}
 use Rattle.gdb_scan.specs.declared.error.GdbError.{GdbError}
 use Rattle.gdb_scan.specs.declared.error.GdbError.TheVariants.{NoMemory}
 use Rattle.gdb_scan.specs.Scan.{ObjectScan}
-use Rattle.gdb_tables.specs.Files.{file_bytes, IsFilesCause}
+use Rattle.gdb_tables.specs.Files.{file_bytes, ScansObjects, IsFilesCause}
 use Rattle.gdb_tables.specs.Index.{IsIndexOf, AreRelocated, IsBuildCause}
 use Rattle.gdb_tables.specs.Merged.{IsMergeOf}
 use Rattle.gdb_tables.specs.Sized.{SizesIndex, IsIndexable, IsSizeCause}
+
+-- files and placements have one list of scans
+abbrev pub HasOneScanEach : Type 0
+HasOneScanEach = (c : Class) (files : List (List ℕ)) (ps : List Placement) (ss ts : List (Option ObjectScan)) → ScansObjects c files ps ss → ScansObjects c files ps ts → ss ≡ ts
 
 -- scans have one merge
 abbrev pub HasOneMerge : Type 0

@@ -1,7 +1,12 @@
 //! Laws over the definitions: each relation has one value, and what is refused is refused for one cause. Each law is the
 //! contract of a function that does nothing.
 
-ghost use Rattle.gdb_tables.specs.Laws.{HasOneMerge, HasOneSize, HasOneIndex, IndexHasFewSteps, HasOneFilesCause, HasOneSizeCause, IndexableHasNoCause, HasOneBuildCause, RelocatedHasNoCause};
+ghost use Rattle.gdb_tables.specs.Laws.{HasOneScanEach, HasOneMerge, HasOneSize, HasOneIndex, IndexHasFewSteps, HasOneFilesCause, HasOneSizeCause, IndexableHasNoCause, HasOneBuildCause, RelocatedHasNoCause};
+
+/// Files and placements have one list of scans.
+pub fn object_scans_are_one()
+    ensures { HasOneScanEach }
+{}
 
 /// Scans have one merge.
 pub fn merges_are_one()
