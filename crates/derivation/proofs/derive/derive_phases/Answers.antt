@@ -21,24 +21,24 @@ pub build_index-requires-clause-placements : goal.build_index-requires-clause-pl
 build_index-requires-clause-placements c =
     subst (λ (fs : List Parsed). ArePlacedIn class64 (file_bytes fs) c.args.placements.now) (c.deref.ensures.value ∙ sym c.deref-2.ensures.value) (c.in_default-first_misplaced.ensures.none refl)
 
-pub returns-in_err-build_index-clause-cause : goal.returns-in_err-build_index-clause-cause
-returns-in_err-build_index-clause-cause c =
+pub returns-in_err-tables-clause-cause : goal.returns-in_err-tables-clause-cause
+returns-in_err-tables-clause-cause c =
     let input = input_of c.args.expected c.args.buffer.now c.args.objects.now c.args.placements.now c.args.sframe.now c.args.ranges.now in
     let placed = subst (λ (fs : List Parsed). ArePlacedIn class64 (file_bytes fs) c.args.placements.now) (c.deref.ensures.value ∙ sym c.deref-2.ensures.value) (c.in_default-first_misplaced.ensures.none refl) in
     let p = err_from_is_err_and c.from_residual.result c.from_residual.ensures.1 in
     subst (λ r. IfErr r (λ e. (e ≡ NoMemory) ⊎ HasCause input e)) (sym p.1)
-    (index_cause input c.deref-2.result.now c.in_err-build_index.error p.0 (c.deref-2.ensures.value ∙ c.in-Ok.ensures.files) (c.in_default.ensures.none refl) c.in-Ok.ensures.sound placed p.2 c.in_err-build_index.ensures.cause)
+    (index_cause input c.deref-2.result.now c.in_err-tables.field-0.0 p.0 (c.deref-2.ensures.value ∙ c.in-Ok.ensures.files) (c.in_default.ensures.none refl) c.in-Ok.ensures.sound placed p.2 c.in_err-tables.ensures.cause)
 
 pub returns-in-Ok-order_sframe-clause-valid : goal.returns-in-Ok-order_sframe-clause-valid
 returns-in-Ok-order_sframe-clause-valid c =
     let input = input_of c.args.expected c.args.buffer.now c.args.objects.now c.args.placements.now c.args.sframe.now c.args.ranges.now in
     let placed = subst (λ (fs : List Parsed). ArePlacedIn class64 (file_bytes fs) c.args.placements.now) (c.deref.ensures.value ∙ sym c.deref-2.ensures.value) (c.in_default-first_misplaced.ensures.none refl) in
-    let indexed = c.in_ok-build_index.ensures in
+    let indexed = c.in_ok-tables.ensures in
     valid_input input c.deref-2.result.now (c.deref-2.ensures.value ∙ c.in-Ok.ensures.files) (c.in_default.ensures.none refl) c.in-Ok.ensures.sound placed indexed.indexable indexed.relocated c.in-Ok-order_sframe.ensures.valid
 
 pub returns-clause-cause : goal.returns-clause-cause
 returns-clause-cause c =
     let input = input_of c.args.expected c.args.buffer.now c.args.objects.now c.args.placements.now c.args.sframe.now c.args.ranges.now in
     let placed = subst (λ (fs : List Parsed). ArePlacedIn class64 (file_bytes fs) c.args.placements.now) (c.deref.ensures.value ∙ sym c.deref-2.ensures.value) (c.in_default-first_misplaced.ensures.none refl) in
-    let indexed = c.in_ok-build_index.ensures in
+    let indexed = c.in_ok-tables.ensures in
     sframe_cause input c.deref-2.result.now c.in-Err-order_sframe.error (c.deref-2.ensures.value ∙ c.in-Ok.ensures.files) (c.in_default.ensures.none refl) c.in-Ok.ensures.sound placed indexed.indexable indexed.relocated c.in-Err-order_sframe.ensures.cause
