@@ -21,7 +21,7 @@ use Rattle.gdb_index_format.specs.declared.placement.AddressEntry.{AddressEntry}
 use Rattle.gdb_index_format.specs.declared.placement.Placement.{Placement}
 use Rattle.gdb_index_format.specs.declared.unit.CuBoundary.{CuBoundary}
 use Rattle.gdb_index_format.specs.Named.{Named, all_named, IsNamed, AreNamesOf, AreDistinct, AnswersAll, names_in, HasFewSteps}
-use Rattle.gdb_index_format.specs.Objects.{AreObjectsOf, AreUnitsOf}
+use Rattle.gdb_index_format.specs.Objects.{AreUnitsOf}
 use Rattle.gdb_index_format.proofs.ObjectLists.{units_of_objects}
 use Rattle.gdb_index_format.specs.Placed.{placed}
 use Rattle.gdb_index_format.specs.Published.{Object, Pair, IsVectorOf, published, units_of_all, unit_lists}

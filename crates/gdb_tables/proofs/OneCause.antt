@@ -1,35 +1,26 @@
 -- What is refused is refused for one cause, and what is well formed for none.
-use Rattle.std.proofs.Common.{◌≡◌, ◌≢◌, ◌⊎◌, ℕ, zero, suc, ◌<◌, ◌^◌, List, [], ◌∷◌, ◌++◌, length, take, Option, Some, None, Result, Ok, Err, IfErr, refl, sym, ap, subst, ◌∙◌, arith, inl, inr}
+use Rattle.std.proofs.Common.{◌≡◌, ◌≢◌, ◌⊎◌, ℕ, zero, suc, ◌<◌, ◌^◌, List, [], ◌∷◌, length, take, Option, Some, None, Result, Ok, Err, IfErr, refl, sym, ap, subst, ◌∙◌, arith, inl, inr}
 use Rattle.std.specs.Prelude.{slice_get}
 use Rattle.std.proofs.lemmas.Bool.{cases_lt}
-use Rattle.elf_format.specs.declared.error.ElfError.TheVariants.{SectionData}
-use Rattle.elf_format.specs.declared.index.SectionIndex.{SectionIndex}
 use Rattle.elf_format.specs.Class.{Class}
-use Rattle.elf_format.specs.Section.{section_bytes}
 use Rattle.gdb_index.specs.Scan.{Scan}
 use Rattle.gdb_index_format.specs.declared.placement.Placement.{Placement}
-use Rattle.gdb_index_format.specs.declared.unit.UnitFault.{UnitFault}
-use Rattle.gdb_index_format.specs.Units.{FailsAt}
-use Rattle.gdb_index_format.specs.Names.{NameSet}
 use Rattle.gdb_index_format.specs.Published.{Object, units_of_all, unit_lists}
-use Rattle.gdb_index_format.specs.Objects.{info_bytes, first_compressed, AreSetsOfSections, IsObjectOf, AreObjectsOf}
+use Rattle.gdb_index_format.specs.Objects.{first_compressed, IsObjectOf, AreObjectsOf}
 use Rattle.gdb_index_format.specs.Placed.{placed}
 use Rattle.gdb_index_format.specs.Size.{IsSize, counts_of}
-use Rattle.gdb_index_format.proofs.UnitLists.{one_place, one_cause}
 use Rattle.gdb_index_format.proofs.ObjectLists.{objects_are_one_lem}
 use Rattle.gdb_index_format.proofs.Sizing.{sizes_are_one_lem}
 use Rattle.gdb_scan.specs.declared.error.GdbError.{GdbError}
-use Rattle.gdb_scan.specs.declared.error.GdbError.TheVariants.{BadElf, CompressedSection, BadUnit, BadPubnames, TooManyUnits, IndexTooLarge, NoMemory}
-use Rattle.gdb_scan.specs.Cause.{IsUnitCause, IsSetsCause, IsSectionCause, leaves, no_sets, FailsInNames, IsScanCause, compressed, in_units, in_names, no_memory, IsRefusedFor, IsOnlyMemory}
+use Rattle.gdb_scan.specs.declared.error.GdbError.TheVariants.{TooManyUnits, IndexTooLarge, NoMemory}
+use Rattle.gdb_scan.specs.Cause.{IsScanCause, IsOnlyMemory}
 use Rattle.gdb_tables.specs.Files as files_spec
 use Rattle.gdb_tables.specs.Files.{ArePlain, FirstBadObject, IsFilesCause, ScansObjects}
 use Rattle.gdb_scan.specs.Scan.{ObjectScan}
-use Rattle.gdb_scan.specs.Scanned.{ScansObject}
 use Rattle.gdb_tables.specs.Sized as sized_spec
 use Rattle.gdb_tables.specs.Sized.{SizesIndex, IsIndexable, IsSizeCause, in_object, too_many, too_large}
-use Rattle.gdb_scan.specs.Laws.{HasOneScanCause}
 use Rattle.gdb_tables.specs.Laws.{HasOneFilesCause, HasOneSizeCause, IndexableHasNoCause}
-use Rattle.gdb_scan.proofs.Causes.{there_or_not, same_bytes, not_in_units, not_in_section, excluded}
+use Rattle.gdb_scan.proofs.Causes.{same_bytes, excluded}
 use Rattle.gdb_scan.proofs.OneCause.{memory_is, told, one_scan_cause}
 
 -- ---- several objects

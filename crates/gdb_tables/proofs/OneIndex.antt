@@ -1,6 +1,5 @@
 -- Objects and placements have one index and one list of names.
 use Rattle.std.proofs.Common.{◌≡◌, ℕ, ◌<◌, List, [], ◌∷◌, length, Option, Some, None, refl, ap, sym, ◌∙◌, subst, arith}
-use Rattle.std.specs.List.{All}
 use Rattle.elf_format.specs.Class.{Class}
 use Rattle.elf_view.specs.Parsed.{Parsed}
 use Rattle.gdb_index.specs.Layout.{IsLayoutOf}
@@ -16,14 +15,11 @@ use Rattle.gdb_index_format.specs.Published.{Object, published, first_names, uni
 use Rattle.gdb_index_format.specs.Size.{IsSize, counts_of}
 use Rattle.gdb_index_format.proofs.ObjectLists.{objects_are_one_lem}
 use Rattle.gdb_index_format.proofs.Sizing.{sizes_are_one_lem}
-use Rattle.gdb_index_format.proofs.WordLists.{one_list_of_words}
 use Rattle.gdb_tables.specs.Addresses.{addresses}
 use Rattle.gdb_tables.specs.Files.{file_bytes}
-use Rattle.gdb_scan.specs.Scan.{ObjectScan}
 use Rattle.gdb_tables.specs.Laws.{HasOneMerge, HasOneSize, IndexHasFewSteps}
-use Rattle.gdb_tables.specs.Merged.{IsMergeOf}
 use Rattle.gdb_tables.specs.Scans.{published_in_scans}
-use Rattle.gdb_tables.specs.Sized.{IsScanOfAll, IsScanOrNone, SizesIndex}
+use Rattle.gdb_tables.specs.Sized.{IsScanOfAll, IsScanOrNone}
 use Rattle.gdb_tables.specs.Index.{IsLaidOut, IsIndexOf, ListsNames}
 use Rattle.gdb_index_format.specs.Version.{index_version}
 use Rattle.gdb_index_format.proofs.NameLists.{same_names, published_names_are_one_lem}

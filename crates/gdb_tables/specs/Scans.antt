@@ -1,14 +1,11 @@
 -- What the scans of all objects hold.
-use Rattle.std.specs.Prelude.{◌≡◌, ◌≢◌, ℕ, ◌+◌, ◌*◌, ◌^◌, ◌<◌, ◌≤◌, List, [], ◌∷◌, ◌++◌, map, length, sum, Option, Some, None}
-use Rattle.std.specs.List.{All, AllByRecursion, flat_map}
+use Rattle.std.specs.Prelude.{ℕ, ◌+◌, List, [], ◌∷◌, ◌++◌, map, length, sum, Option}
+use Rattle.std.specs.List.{flat_map}
 use Rattle.gdb_index_format.specs.declared.unit.CuBoundary.{CuBoundary}
 use Rattle.gdb_index_format.specs.Hash.{element_of}
-use Rattle.gdb_index_format.specs.Units.{total_length}
 use Rattle.gdb_index_format.specs.Published.{Object, Pair}
 use Rattle.gdb_scan.specs.declared.mark.Mark.{Mark}
-use Rattle.gdb_scan.specs.Groups.{groups}
-use Rattle.gdb_scan.specs.Marks.{marks_of}
-use Rattle.gdb_scan.specs.Scan.{ObjectScan, IsObjectName, IsSoundScan, units_in_scan, names_in_scan, placed_in_scan, HasSoundNames, IsScanOf}
+use Rattle.gdb_scan.specs.Scan.{ObjectScan, units_in_scan, names_in_scan, placed_in_scan, IsScanOf}
 
 abbrev pub unit_counts : List (Option ObjectScan) → List ℕ
 unit_counts ss = map (λ s. length (units_in_scan s)) ss
