@@ -1,6 +1,8 @@
 //! The index as bytes (GDB manual, "Index Section Format"): hashes, slots, elements, sizes and lookups.
 
-ghost use Rattle.std.specs.Prelude.{◌≡◌, ◌<◌};
+ghost use Rattle.std.specs.Prelude.{◌≡◌, ◌<◌, codes};
+ghost use Rattle.gdb_index_format.specs.Example.{index_of_two};
+ghost use Rattle.gdb_index_format.specs.Probe.{probe};
 
 use gdb_tables::{
     BadIndex, IndexCounts, IndexTooLarge, Steps, checked_index_size, compute_hash_table_slots,
@@ -10,23 +12,23 @@ use std::marker::Brand;
 use std::sync::ledger::{Blank, Ledger};
 
 /// The element of a CU vector for a global function of CU 0.
-const FUNCTION: u32 = 0x3000_0000;
+pub const FUNCTION: u32 = 0x3000_0000;
 
 /// An index of one unit and no names.
-const NO_NAME: [u8; 52] = [
+pub const NO_NAME: [u8; 52] = [
     9, 0, 0, 0, 28, 0, 0, 0, 44, 0, 0, 0, 44, 0, 0, 0, 44, 0, 0, 0, 44, 0, 0, 0, 52, 0, 0, 0, 0, 0,
     0, 0, 0, 0, 0, 0, 12, 0, 0, 0, 0, 0, 0, 0, 0, 0, 0, 0, 0, 0, 0, 0,
 ];
 
 /// An index of one unit and the name `main`.
-const ONE_NAME: [u8; 81] = [
+pub const ONE_NAME: [u8; 81] = [
     9, 0, 0, 0, 28, 0, 0, 0, 44, 0, 0, 0, 44, 0, 0, 0, 44, 0, 0, 0, 60, 0, 0, 0, 68, 0, 0, 0, 0, 0,
     0, 0, 0, 0, 0, 0, 12, 0, 0, 0, 0, 0, 0, 0, 0, 0, 0, 0, 0, 0, 0, 0, 8, 0, 0, 0, 0, 0, 0, 0, 0,
     0, 0, 0, 0, 0, 0, 0, 1, 0, 0, 0, 0, 0, 0, 48, 109, 97, 105, 110, 0,
 ];
 
 /// An index of one unit and the names `main` and `MAIN`, which have one hash.
-const TWO_NAMES: [u8; 110] = [
+pub const TWO_NAMES: [u8; 110] = [
     9, 0, 0, 0, 28, 0, 0, 0, 44, 0, 0, 0, 44, 0, 0, 0, 44, 0, 0, 0, 76, 0, 0, 0, 84, 0, 0, 0, 0, 0,
     0, 0, 0, 0, 0, 0, 12, 0, 0, 0, 0, 0, 0, 0, 0, 0, 0, 0, 0, 0, 0, 0, 16, 0, 0, 0, 0, 0, 0, 0, 21,
     0, 0, 0, 8, 0, 0, 0, 0, 0, 0, 0, 0, 0, 0, 0, 0, 0, 0, 0, 0, 0, 0, 0, 1, 0, 0, 0, 0, 0, 0, 48,
@@ -34,7 +36,7 @@ const TWO_NAMES: [u8; 110] = [
 ];
 
 /// An index of one unit and the name `main`, which is published twice.
-const TWO_WORDS: [u8; 85] = [
+pub const TWO_WORDS: [u8; 85] = [
     9, 0, 0, 0, 28, 0, 0, 0, 44, 0, 0, 0, 44, 0, 0, 0, 44, 0, 0, 0, 60, 0, 0, 0, 68, 0, 0, 0, 0, 0,
     0, 0, 0, 0, 0, 0, 12, 0, 0, 0, 0, 0, 0, 0, 0, 0, 0, 0, 0, 0, 0, 0, 12, 0, 0, 0, 0, 0, 0, 0, 0,
     0, 0, 0, 0, 0, 0, 0, 2, 0, 0, 0, 0, 0, 0, 48, 0, 0, 0, 48, 109, 97, 105, 110, 0,
@@ -79,7 +81,7 @@ fn sizes_have_a_limit(rt: HostRuntime) {
 }
 
 /// Returns the number of elements that a lookup finds, and the last of them.
-fn find<L: Ledger>(
+pub fn find<L: Ledger>(
     index: &[u8],
     name: &[u8],
     blank: Blank,
@@ -99,6 +101,14 @@ fn find<L: Ledger>(
     Ok(vector.get(count - 1).map(|element| (count, element)))
 }
 
+/// The probe steps that a lookup counts in an index of one unit and the names `main` and `MAIN`, which have one hash:
+/// the first name is found at once, the second after one collision, and an absent name with their hash after two.
+fn probes_take_steps()
+    ensures first { (probe index_of_two (codes "main")).steps ≡ 1 }
+    ensures second { (probe index_of_two (codes "MAIN")).steps ≡ 2 }
+    ensures absent { (probe index_of_two (codes "foo")).steps ≡ 3 }
+{}
+
 #[test]
 fn lookups_find_names(rt: HostRuntime) {
     let rows: [(&[u8], &[u8], Option<(usize, u32)>); 6] = [
@@ -112,6 +122,7 @@ fn lookups_find_names(rt: HostRuntime) {
     for (index, name, found) in rows {
         assert_eq!(rt; find::<Brand>(index, name, Blank::new(1)), Ok(found));
     }
+    probes_take_steps();
 }
 
 #[test]

@@ -3,10 +3,16 @@
 #![tactic(auto)]
 
 #[cfg(test)]
+mod addresses;
+#[cfg(test)]
 mod index;
 #[cfg(test)]
 mod scan;
 #[cfg(test)]
 mod sets;
 #[cfg(test)]
+mod tables;
+#[cfg(test)]
 mod units;
+#[cfg(test)]
+mod written;

@@ -1,6 +1,6 @@
 //! What one object gives to an index (GDB manual, "Index Section Format"), and how a malformed object is refused.
 
-use elf_format::{Architecture, SectionIndex};
+use elf_format::{Architecture, ElfError, SectionIndex};
 use elf_records64::Class64;
 use elf_view::File;
 use elf_words::SHF_COMPRESSED;
@@ -90,6 +90,51 @@ fn malformed_objects_are_refused(rt: HostRuntime) -> Result<(), Fail> {
         ((0, [].as_slice()), (0, cut), None),
     ] {
         assert!(rt; refused_as(&rt, info, names) == error);
+    }
+    Ok(())
+}
+
+/// Returns how an object of one unit and the name `main` is refused, with one of its bytes changed.
+fn changed_refused_as(rt: &HostRuntime, offset: usize, byte: u8) -> Option<GdbError> {
+    let alloc = rt.alloc();
+    let mut bytes = object_with_names(alloc, &UNIT, &SET_OF_MAIN).ok()?;
+    if let Some(to) = bytes.get_mut(offset) {
+        *to = byte;
+    }
+    if bytes.len() >= 1 << 39 {
+        return None;
+    }
+    let file = File::<Class64>::parse_bytes(&bytes, false).ok()?;
+    scan_one_object(alloc, 0, &file, &[]).err()
+}
+
+#[test]
+fn changed_objects_are_refused(rt: HostRuntime) -> Result<(), Fail> {
+    for (offset, byte, error) in [
+        (
+            242,
+            8,
+            Some(GdbError::CompressedSection(0, SectionIndex(1))),
+        ),
+        (
+            306,
+            8,
+            Some(GdbError::CompressedSection(0, SectionIndex(2))),
+        ),
+        (
+            64,
+            9,
+            Some(GdbError::BadUnit {
+                object: 0,
+                offset: 0,
+                fault: UnitFault::InvalidLength,
+            }),
+        ),
+        (76, 0x19, Some(GdbError::BadPubnames(0, SectionIndex(2)))),
+        (258, 0xff, Some(GdbError::BadElf(0, ElfError::SectionData))),
+        (242, 0, None),
+    ] {
+        assert!(rt; changed_refused_as(&rt, offset, byte) == error, "{offset}");
     }
     Ok(())
 }
