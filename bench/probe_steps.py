@@ -16,10 +16,17 @@ def hash_of(name):
     return value
 
 
+def parts(index):
+    """The offsets in the header of an index: CU list, types CU list, address area, symbol hash table, its end, constant pool.
+    Version 8 has no shortcut table, so its constant pool begins where the symbol hash table ends."""
+    version, *offsets = struct.unpack_from("<6I", index)
+    return (*offsets, offsets[-1] if version == 8 else struct.unpack_from("<I", index, 24)[0])
+
+
 def find(index, name):
     """The CU vector of a name, none where it is absent, and how many probe steps were made."""
-    table, shortcuts, pool = struct.unpack_from("<III", index, 16)
-    slots = (shortcuts - table) // 8
+    _, _, _, table, end, pool = parts(index)
+    slots = (end - table) // 8
     hashed = hash_of(name)
     slot, step = hashed % slots, (hashed * 17 & 0xffffffff) % slots | 1
     for steps in range(1, slots + 1):
@@ -61,8 +68,8 @@ def main():
         if found != vector:
             sys.exit(f"{name!r} has another CU vector in the index than in the report")
         counts.append(steps)
-    table, shortcuts = struct.unpack_from("<II", index, 16)
-    print(f"{len(names)} names in {(shortcuts - table) // 8} slots: a look-up takes {sum(counts) / len(counts):.3f} steps "
+    _, _, _, table, end, _ = parts(index)
+    print(f"{len(names)} names in {(end - table) // 8} slots: a look-up takes {sum(counts) / len(counts):.3f} steps "
           f"in the mean, {max(counts)} at most")
 
 

@@ -1,5 +1,5 @@
 #!/usr/bin/env python3
-"""Whether a program's `.gdb_index` fits the program and its objects: `checks/index_of_program.py PROGRAM OBJECT..`.
+"""Whether a program's `.gdb_index` fits the program and its objects: `checks/index_of_program.py VERSION PROGRAM OBJECT..`.
 
 The index is read as the GDB manual, "Index Section Format", says. Its CUs are compared with those that readelf finds in the program,
 its names and their CU vectors with what stands in the objects' pubnames sections, and its address area with the functions that
@@ -16,7 +16,7 @@ sys.dont_write_bytecode = True
 sys.path.insert(0, os.path.join(os.path.dirname(os.path.abspath(__file__)), "..", "bench"))
 sys.path.insert(0, os.path.join(os.path.dirname(os.path.abspath(__file__)), "..", "examples"))
 
-from probe_steps import find
+from probe_steps import find, parts, read_report
 from program_layout import Elf, unit_lengths
 
 
@@ -59,12 +59,13 @@ def published(objects):
     return {name: tuple(sorted(elements)) for name, elements in names.items()}
 
 
-def main(path, *paths):
+def main(expected, path, *paths):
     program, objects = Elf(path), [Elf(it) for it in paths]
     index = program.section(b".gdb_index")
-    version, units, types, addresses, table, _, _ = struct.unpack_from("<7I", index)
-    if version != 9:
+    version, = struct.unpack_from("<I", index)
+    if version != int(expected):
         sys.exit(f"the index has version {version}")
+    units, types, addresses, table, _, _ = parts(index)
     listed = [struct.unpack_from("<QQ", index, at) for at in range(units, types, 16)]
     found = readelf_units(path)
     if listed != [(offset, length) for offset, length, _ in found]:
@@ -89,7 +90,7 @@ def main(path, *paths):
                     sys.exit(f"the function at {low:#x} of CU {number} is in the address entries of {holds}")
     if not functions:
         sys.exit("readelf finds no function in the program's CUs")
-    print(f"right: {len(listed)} CUs, {len(names)} names and the CUs of {functions} functions are those of the program and its objects")
+    print(f"right: in version {version} {len(listed)} CUs, {len(names)} names and the CUs of {functions} functions are those of the program and its objects")
 
 
 if __name__ == "__main__":

@@ -1,7 +1,7 @@
 #!/usr/bin/env python3
 """Prints the layout of a linked program for `derive tables`: `examples/program_layout.py PROGRAM OBJECT.. >LAYOUT`.
 
-PROGRAM is what the linker made of the objects, with its debugging information: little endian ELFCLASS64, `.debug_info` not
+PROGRAM is what the linker made of the objects, with its debugging information: little endian, of either class, `.debug_info` not
 compressed. The objects stand in the order in which they were linked.
 
 First the units are compared: an index counts unit offsets over the objects' `.debug_info` sections, so these have to be the
@@ -26,8 +26,8 @@ RELA, NOBITS = 4, 8
 ALLOC_AND_EXECUTE = 6
 SECTION_OR_FILE = (3, 4)
 DEBUG_SECTIONS = (b".debug_info", b".debug_addr")
-# of e_machine: the word of `derive tables`, and the r_type of a 64-bit absolute address
-ABSOLUTE_64 = {62: ("x86_64", 1), 183: ("aarch64", 257), 21: ("ppc64", 38)}
+# of EI_CLASS and e_machine: the word of `derive tables`, and the r_type of an absolute address of the class
+ABSOLUTE = {(2, 62): ("x86_64", 1), (1, 62): ("x86_64", 10), (2, 183): ("aarch64", 257), (1, 183): ("aarch64", 1), (2, 21): ("ppc64", 38)}
 
 
 class Elf:
@@ -40,18 +40,25 @@ class Elf:
                 self.data = file.read()
         except OSError as error:
             sys.exit(f"{path}: {error.strerror}")
-        if self.data[:6] != b"\x7fELF\x02\x01":
-            sys.exit(f"{path} is no little endian ELFCLASS64 file")
+        if self.data[:4] != b"\x7fELF" or self.data[4:6] not in (b"\x01\x01", b"\x02\x01"):
+            sys.exit(f"{path} is no little endian ELF file")
+        self.wide = self.data[4] == 2
         self.machine, = struct.unpack_from("<H", self.data, 18)
-        table, = struct.unpack_from("<Q", self.data, 40)
-        count, names = struct.unpack_from("<HH", self.data, 60)
-        if table and count == 0:
-            count, = struct.unpack_from("<Q", self.data, table + 32)
-        if names == 0xffff:
-            names, = struct.unpack_from("<I", self.data, table + 40)
+        table, = struct.unpack_from("<Q", self.data, 40) if self.wide else struct.unpack_from("<I", self.data, 32)
+        count, names = struct.unpack_from("<HH", self.data, 60 if self.wide else 48)
         # sh_name, sh_type, sh_flags, sh_addr, sh_offset, sh_size, sh_link, sh_info
-        self.headers = [struct.unpack_from("<IIQQQQII", self.data, table + 64 * i) for i in range(count)]
+        layout, size = ("<IIQQQQII", 64) if self.wide else ("<8I", 40)
+        first = struct.unpack_from(layout, self.data, table) if table else None
+        if first and count == 0:
+            count = first[5]
+        if names == 0xffff:
+            names = first[6]
+        self.headers = [struct.unpack_from(layout, self.data, table + size * i) for i in range(count)]
         self.names = [self.string(names, header[0]) for header in self.headers]
+
+    def form(self):
+        """EI_CLASS and e_machine."""
+        return self.data[4], self.machine
 
     def bytes(self, index):
         _, kind, _, _, offset, size, _, _ = self.headers[index]
@@ -73,9 +80,12 @@ class Elf:
         table = tables[-1]
         wide = [self.bytes(i) for i, header in enumerate(self.headers) if header[1] == 18 and header[6] == table]
         strings, file = self.headers[table][6], b""
-        data = self.bytes(table)
-        for i in range(len(data) // 24):
-            name, info, _, shndx, value, _ = struct.unpack_from("<IBBHQQ", data, 24 * i)
+        data, size = self.bytes(table), 24 if self.wide else 16
+        for i in range(len(data) // size):
+            if self.wide:
+                name, info, _, shndx, value, _ = struct.unpack_from("<IBBHQQ", data, size * i)
+            else:
+                name, value, _, info, _, shndx = struct.unpack_from("<IIIBBH", data, size * i)
             text = self.string(strings, name)
             if info & 15 == 4:
                 file = text
@@ -90,9 +100,10 @@ class Elf:
         for i, header in enumerate(self.headers):
             if header[1] == RELA and header[7] == index:
                 data = self.bytes(i)
-                for at in range(0, len(data) - 23, 24):
-                    offset, info, addend = struct.unpack_from("<QQq", data, at)
-                    yield offset, info >> 32, info & 0xffffffff, addend
+                layout, size, bits = ("<QQq", 24, 32) if self.wide else ("<IIi", 12, 8)
+                for at in range(0, len(data) - size + 1, size):
+                    offset, info, addend = struct.unpack_from(layout, data, at)
+                    yield offset, info >> bits, info & (1 << bits) - 1, addend
 
     def code(self):
         """The indexes of the sections that take memory, hold instructions and are not empty."""
@@ -100,10 +111,13 @@ class Elf:
 
     def segments(self):
         """(address, bytes) of each executable segment."""
-        start, = struct.unpack_from("<Q", self.data, 32)
-        count, = struct.unpack_from("<H", self.data, 56)
+        start, = struct.unpack_from("<Q", self.data, 32) if self.wide else struct.unpack_from("<I", self.data, 28)
+        count, = struct.unpack_from("<H", self.data, 56 if self.wide else 44)
         for i in range(count):
-            kind, flags, offset, address, _, size, _, _ = struct.unpack_from("<IIQQQQQQ", self.data, start + 56 * i)
+            if self.wide:
+                kind, flags, offset, address, _, size, _, _ = struct.unpack_from("<IIQQQQQQ", self.data, start + 56 * i)
+            else:
+                kind, offset, address, _, size, _, flags, _ = struct.unpack_from("<8I", self.data, start + 32 * i)
             if kind == 1 and flags & 1:
                 yield address, self.data[offset:offset + size]
 
@@ -142,7 +156,7 @@ def compare_units(program, objects):
 
 def by_relocations(program, objects):
     """(object, section, address) as the relocated words of the program's debugging sections say."""
-    absolute = ABSOLUTE_64[program.machine][1]
+    absolute, (word, size) = ABSOLUTE[program.form()][1], ("<Q", 8) if program.wide else ("<I", 4)
     for name in DEBUG_SECTIONS:
         linked, base = program.section(name), 0
         if len(linked) != sum(len(elf.section(name)) for elf in objects):
@@ -150,9 +164,9 @@ def by_relocations(program, objects):
         for number, elf in enumerate(objects):
             symbols = list(elf.symbols())
             for offset, symbol, kind, addend in elf.relocations(elf.names.index(name)) if name in elf.names else ():
-                if kind == absolute and symbol < len(symbols) and base + offset + 8 <= len(linked):
+                if kind == absolute and symbol < len(symbols) and base + offset + size <= len(linked):
                     _, _, section, value = symbols[symbol]
-                    address, = struct.unpack_from("<Q", linked, base + offset)
+                    address, = struct.unpack_from(word, linked, base + offset)
                     yield number, section, address - value - addend
             base += len(elf.section(name))
 
@@ -211,11 +225,11 @@ def main(paths):
     if len(paths) < 2:
         sys.exit(__doc__)
     program, *objects = map(Elf, paths)
-    if program.machine not in ABSOLUTE_64:
-        sys.exit(f"{program.path}: machine {program.machine} is not supported; linker relaxation may change the sizes of sections there")
+    if program.form() not in ABSOLUTE:
+        sys.exit(f"{program.path}: machine {program.machine} of this class is not supported; linker relaxation may change the sizes of sections there")
     compare_units(program, objects)
     addresses, sizes = place(program, objects)
-    print("# machine", ABSOLUTE_64[program.machine][0])
+    print("# machine", ABSOLUTE[program.form()][0])
     for key in sorted(sizes):
         if key in addresses:
             print("place", *key, addresses[key], sizes[key])

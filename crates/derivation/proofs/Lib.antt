@@ -1,3 +1,4 @@
+mod ByClass
 mod Parsing
 pub mod Phases
 mod Refusing

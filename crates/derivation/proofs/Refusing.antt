@@ -10,13 +10,11 @@ use Rattle.gdb_index_format.specs.Objects.{AreUnitsOf}
 use Rattle.gdb_tables.specs.Addresses.{first_relocation_fault, IsAddressCause}
 use Rattle.gdb_tables.specs.Files.{file_bytes}
 use Rattle.gdb_tables.specs.Sized.{IsSizeCause}
-use Rattle.elf_format.specs.Class.{class64}
 use Rattle.sframe_format.specs.declared.fault.SframeFault.{SframeFault}
 use Rattle.sframe_format.specs.declared.fault.SframeFault.TheVariants as faults
 use Rattle.sframe_format.specs.Valid as frames
 use Rattle.derivation.specs.declared.error.DeriveError.{DeriveError}
 use Rattle.derivation.specs.declared.error.DeriveError.TheVariants as errors
-use Rattle.gdb_index_format.specs.Version.{index_version}
 use Rattle.derivation.specs.Cause.{of_gdb_error, of_sframe_fault, IsUnsized, IsUnordered, IsUnrelocated}
 
 no_gdb_memory : (g : GdbError) → (g ≡ gdb.NoMemory) ⊎ (g ≢ gdb.NoMemory)
@@ -42,8 +40,8 @@ memory_told g none = rw none refl
 sframe_memory_told : (g : SframeFault) → g ≡ faults.NoMemory → of_sframe_fault g ≡ errors.NoMemory
 sframe_memory_told g none = rw none refl
 
-pub unsized : (bytes : List (List ℕ)) (placements : List Placement) (g : GdbError) (e : DeriveError) → e ≡ of_gdb_error g → IsSizeCause index_version class64 bytes placements g → (e ≡ errors.NoMemory) ⊎ IsUnsized bytes placements e
-unsized bytes placements g e told cause =
+pub unsized : (version : ℕ) (bytes : List (List ℕ)) (placements : List Placement) (g : GdbError) (e : DeriveError) → e ≡ of_gdb_error g → IsSizeCause version bytes placements g → (e ≡ errors.NoMemory) ⊎ IsUnsized version bytes placements e
+unsized version bytes placements g e told cause =
     elim (no_gdb_memory g) [
       | inl none ↦ inl (told ∙ memory_told g none)
       | inr some ↦ inr (g, some, told, cause)
@@ -56,7 +54,7 @@ unordered sframe ranges g e told cause =
       | inr some ↦ inr (g, some, told, cause)
     ]
 
-pub unrelocated : (parsed : List Parsed) (uss : List (List CuBoundary)) (g : GdbError) (e : DeriveError) → e ≡ of_gdb_error g → AreUnitsOf class64 (file_bytes parsed) uss → IsAddressCause (first_relocation_fault class64 parsed uss) g → (e ≡ errors.NoMemory) ⊎ IsUnrelocated parsed e
+pub unrelocated : (parsed : List Parsed) (uss : List (List CuBoundary)) (g : GdbError) (e : DeriveError) → e ≡ of_gdb_error g → AreUnitsOf (file_bytes parsed) uss → IsAddressCause (first_relocation_fault parsed uss) g → (e ≡ errors.NoMemory) ⊎ IsUnrelocated parsed e
 unrelocated parsed uss (gdb.BadElf object kind) e told held cause = inr (uss, object, kind, told, held, cause)
 unrelocated parsed uss (gdb.CompressedSection object section) e told held cause = absurd cause
 unrelocated parsed uss (gdb.BadUnit object offset fault) e told held cause = absurd cause

@@ -2,7 +2,6 @@
 use Rattle.std.specs.Prelude.{◌≡◌, ◌≢◌, ℕ, List, not, length, position, Some}
 use Rattle.elf_format.specs.declared.error.ElfError.{ElfError}
 use Rattle.elf_format.specs.declared.index.Span.{Span}
-use Rattle.elf_format.specs.Class.{class64}
 use Rattle.elf_format.specs.Span.{is_inside}
 use Rattle.elf_view.specs.Parsed.{Parsed}
 use Rattle.gdb_index_format.specs.declared.placement.Placement.{Placement}
@@ -21,7 +20,7 @@ use Rattle.derivation.specs.declared.error.DeriveError.{DeriveError}
 use Rattle.derivation.specs.declared.error.DeriveError.TheVariants as errors
 use Rattle.derivation.specs.Input.{Input}
 use Rattle.derivation.specs.Objects.{objects_of, parsed_of, IsFirstFaulty}
-use Rattle.gdb_index_format.specs.Version.{index_version}
+use Rattle.gdb_index_format.specs.Version.{version_number}
 use Rattle.derivation.specs.Valid.{HasSpans, HasObjects, HasPlacements, HasIndex, HasRelocations}
 
 -- the span of this index is the first that is reversed or ends after the end of the buffer
@@ -30,12 +29,12 @@ IsSpanCause input e = (index : ℕ) × (e ≡ errors.BadSpan index) × (position
 
 -- the object of this index is the first with a fault, and this is its fault
 abbrev pub IsObjectCause : Input → DeriveError → Type 0
-IsObjectCause input e = (index : ℕ) × (kind : ElfError) × (e ≡ errors.BadElf index kind) × IsFirstFaulty class64 input.machine (objects_of input.buffer input.objects) index kind
+IsObjectCause input e = (index : ℕ) × (kind : ElfError) × (e ≡ errors.BadElf index kind) × IsFirstFaulty input.machine (objects_of input.buffer input.objects) index kind
 
 -- the placement of this index is the first that does not follow the one before it by object and section, names an object or a
 -- section that does not exist, or has an end that does not fit 64 bits
 abbrev pub IsPlacementCause : Input → DeriveError → Type 0
-IsPlacementCause input e = (index : ℕ) × (e ≡ errors.BadPlacement index) × (misplaced class64 (objects_of input.buffer input.objects) input.placements ≡ Some index)
+IsPlacementCause input e = (index : ℕ) × (e ≡ errors.BadPlacement index) × (misplaced (objects_of input.buffer input.objects) input.placements ≡ Some index)
 
 -- the error of the index, as an error of the tables
 abbrev pub of_gdb_error : GdbError → DeriveError
@@ -47,17 +46,17 @@ of_gdb_error (gdb.TooManyUnits count) = errors.TooManyUnits count
 of_gdb_error (gdb.IndexTooLarge size) = errors.IndexTooLarge size
 of_gdb_error gdb.NoMemory = errors.NoMemory
 
--- the index of files has no size, for this cause
-abbrev pub IsUnsized : List (List ℕ) → List Placement → DeriveError → Type 0
-IsUnsized bytes placements e = (g : GdbError) × (g ≢ gdb.NoMemory) × (e ≡ of_gdb_error g) × IsSizeCause index_version class64 bytes placements g
+-- the index of files, of this version, has no size, for this cause
+abbrev pub IsUnsized : ℕ → List (List ℕ) → List Placement → DeriveError → Type 0
+IsUnsized version bytes placements e = (g : GdbError) × (g ≢ gdb.NoMemory) × (e ≡ of_gdb_error g) × IsSizeCause version bytes placements g
 
 abbrev pub IsIndexCause : Input → DeriveError → Type 0
-IsIndexCause input e = IsUnsized (objects_of input.buffer input.objects) input.placements e
+IsIndexCause input e = IsUnsized (version_number input.version) (objects_of input.buffer input.objects) input.placements e
 
 -- the object of this index is the first with two units or more whose relocations have a fault
 abbrev pub IsUnrelocated : List Parsed → DeriveError → Type 0
 IsUnrelocated parsed e =
-    (uss : List (List CuBoundary)) × (index : ℕ) × (kind : ElfError) × (e ≡ errors.BadElf index kind) × AreUnitsOf class64 (files.file_bytes parsed) uss × (first_relocation_fault class64 parsed uss ≡ Some (index, kind))
+    (uss : List (List CuBoundary)) × (index : ℕ) × (kind : ElfError) × (e ≡ errors.BadElf index kind) × AreUnitsOf (files.file_bytes parsed) uss × (first_relocation_fault parsed uss ≡ Some (index, kind))
 
 abbrev pub IsRelocationCause : Input → DeriveError → Type 0
 IsRelocationCause input e = IsUnrelocated (parsed_of input.buffer input.objects) e

@@ -3,3 +3,4 @@ pub mod Objects
 pub mod Valid
 pub mod Cause
 pub mod Laws
+pub mod steps

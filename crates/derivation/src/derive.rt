@@ -1,22 +1,25 @@
 //! Derives both tables from objects, in phases: an error of a phase comes only where the earlier phases succeed.
 
 ghost use Rattle.std.specs.Prelude.{◌≡◌, ◌⊎◌, MatchResult, ◌<◌, ◌^◌, length, OnOk, IfOk, IfErr};
-ghost use Rattle.elf_format.specs.Class.{class64};
 ghost use Rattle.sframe_format.specs.Sorted.{SortOf};
-ghost use Rattle.derivation.specs.Cause.{HasCause};
+ghost use Rattle.gdb_index_format.specs.Version.{version_number};
 ghost use Rattle.gdb_tables.specs.Index.{IsIndexOf};
-ghost use Rattle.derivation.specs.Input.{input_of};
+ghost use Rattle.derivation.specs.Cause.{HasCause};
+ghost use Rattle.derivation.specs.Input.{input_of, input_given};
 ghost use Rattle.derivation.specs.Objects.{parsed_of};
 ghost use Rattle.derivation.specs.Valid.{IsValid};
 ghost use Rattle.derivation.specs.declared.error.DeriveError.{DeriveError as DeriveError_spec};
 ghost use Rattle.derivation.specs.declared.error.DeriveError.TheVariants.{NoMemory};
+ghost use Rattle.derivation.specs.steps.Derived.{HasTablesOf, IsRefusedBy};
 
 use crate::DeriveError;
+use crate::input::Input;
+use crate::laws::{refused_for_one_cause, valid_has_no_cause};
 use crate::object::parse_objects;
 use crate::order::order_sframe;
 use elf_format::{Architecture, Span};
 use elf_words::first_outside;
-use gdb_index_format::{CuBoundary, NameWords, Placement};
+use gdb_index_format::{CuBoundary, IndexVersion, NameWords, Placement};
 use gdb_tables::{build_index, first_misplaced};
 use sframe_format::SframeOutcome;
 use std::alloc::Global;
@@ -37,35 +40,23 @@ pub struct Derived<'a> {
 }
 
 /// Derives the tables, and returns the first error.
-fn derive_phases<'a>(
-    alloc: Global,
-    expected: Architecture,
-    buffer: &'a [u8],
-    objects: &[Span],
-    placements: &[Placement],
-    sframe: &[u8],
-    ranges: &[Span],
-    base: u64,
-) -> Result<Derived<'a>, DeriveError>
-    requires buffer { length buffer.now < 2 ^ 39 }
-    requires objects { length objects.now < 2 ^ 24 }
-    ensures valid { OnOk result (IsValid (input_of expected buffer.now objects.now placements.now sframe.now ranges.now)) }
-    ensures cause { IfErr result (λ e. (e ≡ NoMemory) ⊎ HasCause (input_of expected buffer.now objects.now placements.now sframe.now ranges.now) e) }
-    ensures index { IfOk result (λ d. IsIndexOf class64 (parsed_of buffer.now objects.now) placements.now d.units.items d.names.items d.index.items) }
-    ensures sframe { IfOk result (λ d. SortOf sframe.now ranges.now d.sframe.items d.outcome) }
+fn derive_phases<'a>(alloc: Global, input: &Input<'a, '_>) -> Result<Derived<'a>, DeriveError>
+    requires buffer { length input.now.buffer.now < 2 ^ 39 }
+    requires objects { length input.now.objects.now < 2 ^ 24 }
+    ensures { MatchResult result (HasTablesOf (input_given input.now)) (IsRefusedBy (input_given input.now)) }
 {
-    if let Some(index) = first_outside(buffer.len(), objects) {
+    if let Some(index) = first_outside(input.buffer.len(), input.objects) {
         return Err(DeriveError::BadSpan(index));
     }
-    let files = match parse_objects(alloc, expected, buffer, objects) {
+    let files = match parse_objects(alloc, input.machine, input.buffer, input.objects) {
         Ok(files) => files,
         Err(error) => return Err(error),
     };
-    if let Some(index) = first_misplaced(&files, placements) {
+    if let Some(index) = first_misplaced(&files, input.placements) {
         return Err(DeriveError::BadPlacement(index));
     }
-    let tables = build_index(alloc, &files, placements)?;
-    match order_sframe(alloc, sframe, ranges, base) {
+    let tables = build_index(alloc, &files, input.placements, input.version)?;
+    match order_sframe(alloc, input.sframe, input.ranges, input.base) {
         Ok((sframe, outcome)) => Ok(Derived {
             units: tables.units,
             names: tables.names,
@@ -80,7 +71,7 @@ fn derive_phases<'a>(
 /// Derives the tables of objects, which are spans of `buffer`, for a machine: their index for debuggers (GDB manual,
 /// "Index Section Format"), and the given SFrame section ordered by address (SFrame 2), whose first byte is loaded
 /// at `base`. The placements are the addresses of sections of the objects, the ranges the contributions of the SFrame
-/// section. There is no assumption on the bytes.
+/// section, and the version is that of the index. The objects may be of both classes. There is no assumption on the bytes.
 ///
 /// Input has tables exactly where each span lies in the buffer; each object is a well-formed relocatable file of the
 /// machine; the placements ascend by object and section, name sections that exist, and have ends that fit 64 bits; the
@@ -100,23 +91,34 @@ pub fn derive_tables<'a>(
     sframe: &[u8],
     ranges: &[Span],
     base: u64,
+    version: IndexVersion,
 ) -> Result<Derived<'a>, DeriveError>
     requires buffer { length buffer.now < 2 ^ 39 }
     requires objects { length objects.now < 2 ^ 24 }
 
     // Ok exactly on valid input, and each error exactly by its cause
-    ensures valid { OnOk result (IsValid (input_of expected buffer.now objects.now placements.now sframe.now ranges.now)) }
-    ensures cause { IfErr result (λ e. (e ≡ NoMemory) ⊎ HasCause (input_of expected buffer.now objects.now placements.now sframe.now ranges.now) e) }
-    ensures exact { (e : DeriveError_spec) → HasCause (input_of expected buffer.now objects.now placements.now sframe.now ranges.now) e → MatchResult result (λ _. ⊥) (λ f. (f ≡ e) ⊎ (f ≡ NoMemory)) }
-    ensures complete { IsValid (input_of expected buffer.now objects.now placements.now sframe.now ranges.now) → IfErr result (λ e. e ≡ NoMemory) }
+    ensures valid { OnOk result (IsValid (input_of expected buffer.now objects.now placements.now sframe.now ranges.now version)) }
+    ensures cause { IfErr result (λ e. (e ≡ NoMemory) ⊎ HasCause (input_of expected buffer.now objects.now placements.now sframe.now ranges.now version) e) }
+    ensures exact { (e : DeriveError_spec) → HasCause (input_of expected buffer.now objects.now placements.now sframe.now ranges.now version) e → MatchResult result (λ _. ⊥) (λ f. (f ≡ e) ⊎ (f ≡ NoMemory)) }
+    ensures complete { IsValid (input_of expected buffer.now objects.now placements.now sframe.now ranges.now version) → IfErr result (λ e. e ≡ NoMemory) }
 
     // the tables
-    ensures index { IfOk result (λ d. IsIndexOf class64 (parsed_of buffer.now objects.now) placements.now d.units.items d.names.items d.index.items) }
+    ensures index { IfOk result (λ d. IsIndexOf (version_number version) (parsed_of buffer.now objects.now) placements.now d.units.items d.names.items d.index.items) }
     ensures sframe { IfOk result (λ d. SortOf sframe.now ranges.now d.sframe.items d.outcome) }
 {
-    match derive_phases(
-        alloc, expected, buffer, objects, placements, sframe, ranges, base,
-    ) {
+    refused_for_one_cause();
+    valid_has_no_cause();
+    let input = Input {
+        machine: expected,
+        buffer,
+        objects,
+        placements,
+        sframe,
+        ranges,
+        base,
+        version,
+    };
+    match derive_phases(alloc, &input) {
         Ok(derived) => Ok(derived),
         Err(error) => Err(error),
     }

@@ -5,6 +5,7 @@
 
 mod derive;
 mod error;
+mod input;
 mod laws;
 mod object;
 mod order;

@@ -3,34 +3,48 @@
 ghost use Rattle.std.specs.Prelude.{◌≡◌, ◌⊎◌, ℕ, false, List, length, IfOk, IfErr, OnOk};
 ghost use Rattle.std.specs.Result.{result_err};
 ghost use Rattle.elf_format.specs.declared.error.ElfError.{ElfError as ElfError_spec};
-ghost use Rattle.elf_format.specs.Class.{class64};
 ghost use Rattle.elf_format.specs.Span.{AreInside, IsInside, span_bytes};
+ghost use Rattle.elf_view.specs.AnyFile.{parsed};
+ghost use Rattle.gdb_index_format.specs.Objects.{class_in};
+ghost use Rattle.gdb_tables.specs.Files.{all_parsed};
 ghost use Rattle.derivation.specs.declared.error.DeriveError.TheVariants.{BadElf, NoMemory};
-ghost use Rattle.derivation.specs.Objects.{objects_of, parsed_at, parsed_of, object_fault, AreObjects, IsFirstFaulty};
+ghost use Rattle.derivation.specs.Objects.{objects_of, parsed_at, parsed_of, kind_fault, object_fault, AreObjects, IsFirstFaulty};
 
 use crate::DeriveError;
 use elf_format::{Architecture, ElfError, Span};
-use elf_records64::{Class64, FileHeader64};
-use elf_view::File;
-use elf_words::{ET_REL, FileHeaderFields, Record};
+use elf_view::AnyFile;
+use elf_words::ET_REL;
 use std::alloc::Global;
 
-/// Parses the bytes of an object. The error is the first rule of files that the bytes break, then `Header` where the
-/// object is not relocatable, then `Machine` where it is for another machine.
-#[tactic(auto, unfolding(crate::specs::Objects::object_fault, elf_format::specs::Fault::fault, elf_format::specs::Fault::has_header))]
-fn parse_object(bytes: &[u8], expected: Architecture) -> Result<File<'_, Class64>, ElfError>
-    ensures fault { result_err result ≡ object_fault class64 expected bytes.now }
-    ensures file { IfOk result (λ f. f ≡ record { bytes = bytes.now; is_dynamic = false }) }
+/// Returns why a well-formed file is no object for a machine: `Header` where it is not relocatable, then `Machine` where
+/// it is for another machine.
+fn fault_of_kind(file: &AnyFile<'_>, expected: Architecture) -> Option<ElfError>
+    ensures { result ≡ kind_fault (class_in (parsed file.now).bytes) expected (parsed file.now).bytes }
 {
-    let header = FileHeader64::read(bytes).ok_or(ElfError::Header)?;
-    let file = File::parse_bytes(bytes, false)?;
-    if header.e_type() != ET_REL {
-        return Err(ElfError::Header);
+    if file.file_type() != ET_REL {
+        return Some(ElfError::Header);
     }
-    if header.e_machine() != expected.machine() {
-        return Err(ElfError::Machine);
+    if file.arch().machine() != expected.machine() {
+        return Some(ElfError::Machine);
     }
-    Ok(file)
+    None
+}
+
+/// Parses the bytes of an object, of either class. The error is the first rule of files that the bytes break, then
+/// `Header` where the object is not relocatable, then `Machine` where it is for another machine.
+#[tactic(auto, unfolding(crate::specs::Objects::object_fault))]
+fn parse_object(bytes: &[u8], expected: Architecture) -> Result<AnyFile<'_>, ElfError>
+    ensures fault { result_err result ≡ object_fault expected bytes.now }
+    ensures file { IfOk result (λ f. parsed f ≡ record { bytes = bytes.now; is_dynamic = false }) }
+{
+    let file = match AnyFile::parse_bytes(bytes, false) {
+        Ok(file) => file,
+        Err(error) => return Err(error),
+    };
+    match fault_of_kind(&file, expected) {
+        Some(error) => Err(error),
+        None => Ok(file),
+    }
 }
 
 /// Parses the object at a span of the buffer.
@@ -38,10 +52,10 @@ fn parse_span<'a>(
     buffer: &'a [u8],
     span: Span,
     expected: Architecture,
-) -> Result<File<'a, Class64>, ElfError>
+) -> Result<AnyFile<'a>, ElfError>
     requires { IsInside (length buffer.now) span }
-    ensures fault { result_err result ≡ object_fault class64 expected (span_bytes buffer.now span) }
-    ensures file { IfOk result (λ f. f ≡ parsed_at buffer.now span) }
+    ensures fault { result_err result ≡ object_fault expected (span_bytes buffer.now span) }
+    ensures file { IfOk result (λ f. parsed f ≡ parsed_at buffer.now span) }
 {
     match parse_object(&buffer[span.start..span.stop], expected) {
         Ok(file) => Ok(file),
@@ -55,11 +69,11 @@ pub(crate) fn parse_objects<'a>(
     expected: Architecture,
     buffer: &'a [u8],
     spans: &[Span],
-) -> Result<Vec<File<'a, Class64>>, DeriveError>
+) -> Result<Vec<AnyFile<'a>>, DeriveError>
     requires { AreInside (length buffer.now) spans.now }
-    ensures files { IfOk result (λ files. files.items ≡ parsed_of buffer.now spans.now) }
-    ensures sound { OnOk result (AreObjects class64 expected (objects_of buffer.now spans.now)) }
-    ensures cause { IfErr result (λ e. (e ≡ NoMemory) ⊎ (index : ℕ) × (kind : ElfError_spec) × (e ≡ BadElf index kind) × IsFirstFaulty class64 expected (objects_of buffer.now spans.now) index kind) }
+    ensures files { IfOk result (λ files. all_parsed files.items ≡ parsed_of buffer.now spans.now) }
+    ensures sound { OnOk result (AreObjects expected (objects_of buffer.now spans.now)) }
+    ensures cause { IfErr result (λ e. (e ≡ NoMemory) ⊎ (index : ℕ) × (kind : ElfError_spec) × (e ≡ BadElf index kind) × IsFirstFaulty expected (objects_of buffer.now spans.now) index kind) }
 {
     let mut files = Vec::new(alloc);
     for (index, span) in spans.iter().enumerate() {

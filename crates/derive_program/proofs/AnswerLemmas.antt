@@ -1,7 +1,8 @@
 -- From what the tables and the writing came to, to the answer.
-use Rattle.std.proofs.Common.{◌≡◌, ℕ, List, Ok, refl, sym, ap, subst, ◌∙◌, ◌⊎◌, inl, inr}
+use Rattle.std.proofs.Common.{◌≡◌, ℕ, List, Option, Some, Ok, refl, sym, ap, subst, ◌∙◌, ◌⊎◌, inl, inr}
 use Rattle.elf_format.specs.declared.architecture.Architecture.{Architecture}
 use Rattle.elf_format.specs.declared.index.Span.{Span}
+use Rattle.gdb_index_format.specs.declared.version.IndexVersion.{IndexVersion}
 use Rattle.gdb_index_format.specs.declared.placement.Placement.{Placement}
 use Rattle.gdb_index_format.specs.declared.unit.CuBoundary.{CuBoundary}
 use Rattle.gdb_index_format.specs.declared.name_words.NameWords.{NameWords}
@@ -10,26 +11,28 @@ use Rattle.derivation.specs.declared.error.DeriveError.{DeriveError}
 use Rattle.derivation.specs.declared.error.DeriveError.TheVariants as errors
 use Rattle.program_files.specs.declared.files_read.FilesRead.{FilesRead}
 use Rattle.program_text.specs.Layout.{LayoutEntries, layout_of}
+use Rattle.program_text.specs.Query.{Query}
 use Rattle.program_text.specs.Report.{report_of}
 use Rattle.derive_program.specs.declared.ran.Ran.{Ran}
-use Rattle.derive_program.specs.declared.ran.Ran.TheVariants.{Done, Refused, BadWords, BadLayout, ReadFault, FileTooLong, WriteFault, NoMemory}
-use Rattle.derive_program.specs.Answer.{program_input_of, IsInputOfFiles, IsAnswerFor, IsRefusalOf}
+use Rattle.derive_program.specs.declared.ran.Ran.TheVariants.{Done, Refused, WriteFault, NoMemory}
+use Rattle.derive_program.specs.steps.Answer.{program_input_of, IsInputOfFiles, IsReportOfFiles, IsAnswerFor, IsRefusalOf, IsWritingOf, IsReplyWriting, IsReplyOf, IsQueryAnswer}
 use Rattle.derive_program.specs.Cause.{HasCauseIn, HasReport, IsAttempted}
 use Rattle.derive_program.specs.ProgramInput.{ProgramInput, AreTablesOf, HasTables}
-use Rattle.derive_program.specs.Writing.{Writes, IsSilent, IsPutOnce, IsWritingOf}
+use Rattle.derive_program.specs.Reply.{Reply, IsReply, reply_text}
+use Rattle.derive_program.specs.Writing.{Writes, IsSilent, IsPutOnce, IsWhole}
 
 -- an input of these parts
-abbrev pub input_with : Architecture → ℕ → List Placement → List Span → List ℕ → List Span → List ℕ → ProgramInput
-input_with machine base placements ranges buffer objects sframe =
-    record { machine = machine; layout = record { placements = placements; ranges = ranges; base = base }; buffer = buffer; objects = objects; sframe = sframe }
+abbrev pub input_with : Architecture → IndexVersion → ℕ → List Placement → List Span → List ℕ → List Span → List ℕ → ProgramInput
+input_with machine version base placements ranges buffer objects sframe =
+    record { machine = machine; version = version; layout = record { placements = placements; ranges = ranges; base = base }; buffer = buffer; objects = objects; sframe = sframe }
 
-pub same_input : (machine : Architecture) (base : ℕ) (placements placements' : List Placement) (ranges ranges' : List Span) (buffer buffer' : List ℕ) (objects objects' : List Span) (sframe sframe' : List ℕ) → placements ≡ placements' → ranges ≡ ranges' → buffer ≡ buffer' → objects ≡ objects' → sframe ≡ sframe' → input_with machine base placements ranges buffer objects sframe ≡ input_with machine base placements' ranges' buffer' objects' sframe'
-same_input machine base placements placements' ranges ranges' buffer buffer' objects objects' sframe sframe' p r b o s =
-    ap (λ x. input_with machine base x ranges buffer objects sframe) p
-    ∙ ap (λ x. input_with machine base placements' x buffer objects sframe) r
-    ∙ ap (λ x. input_with machine base placements' ranges' x objects sframe) b
-    ∙ ap (λ x. input_with machine base placements' ranges' buffer' x sframe) o
-    ∙ ap (λ x. input_with machine base placements' ranges' buffer' objects' x) s
+pub same_input : (machine : Architecture) (version : IndexVersion) (base : ℕ) (placements placements' : List Placement) (ranges ranges' : List Span) (buffer buffer' : List ℕ) (objects objects' : List Span) (sframe sframe' : List ℕ) → placements ≡ placements' → ranges ≡ ranges' → buffer ≡ buffer' → objects ≡ objects' → sframe ≡ sframe' → input_with machine version base placements ranges buffer objects sframe ≡ input_with machine version base placements' ranges' buffer' objects' sframe'
+same_input machine version base placements placements' ranges ranges' buffer buffer' objects objects' sframe sframe' p r b o s =
+    ap (λ x. input_with machine version base x ranges buffer objects sframe) p
+    ∙ ap (λ x. input_with machine version base placements' x buffer objects sframe) r
+    ∙ ap (λ x. input_with machine version base placements' ranges' x objects sframe) b
+    ∙ ap (λ x. input_with machine version base placements' ranges' buffer' x sframe) o
+    ∙ ap (λ x. input_with machine version base placements' ranges' buffer' objects' x) s
 
 -- what holds of an input holds of the same input
 pub of_same : (given input : ProgramInput) (P : ProgramInput → Type 0) → given ≡ input → P given → P input
@@ -50,14 +53,14 @@ report_named units names index index' sframe sframe' outcome outcome' i s o =
     ∙ ap (λ x. report_of units names x index' sframe') (sym o)
 
 -- files with their layout are the input of their parts
-files_input : (machine : Architecture) (files : FilesRead) (layout : LayoutEntries) → layout_of files.layout.items ≡ Ok layout → IsInputOfFiles machine files (program_input_of machine files layout)
-files_input machine files layout laid = record { layout = layout; laid = laid; is = refl }
+files_input : (machine : Architecture) (version : IndexVersion) (files : FilesRead) (layout : LayoutEntries) → layout_of files.layout.items ≡ Ok layout → IsInputOfFiles machine version files (program_input_of machine version files layout)
+files_input machine version files layout laid = record { layout = layout; laid = laid; is = refl }
 
 -- the report of tables
-report_with : (machine : Architecture) (files : FilesRead) (layout : LayoutEntries) (units : List CuBoundary) (names : List NameWords) (index sframe : List ℕ) (outcome : SframeOutcome) → layout_of files.layout.items ≡ Ok layout → AreTablesOf (program_input_of machine files layout) units names index sframe outcome → ((error : DeriveError) → HasCauseIn (program_input_of machine files layout) error → ⊥) → HasReport (IsInputOfFiles machine files) index sframe outcome (report_of units names outcome index sframe)
-report_with machine files layout units names index sframe outcome laid are none = record {
-  input = program_input_of machine files layout;
-  read = files_input machine files layout laid;
+report_with : (machine : Architecture) (version : IndexVersion) (files : FilesRead) (layout : LayoutEntries) (units : List CuBoundary) (names : List NameWords) (index sframe : List ℕ) (outcome : SframeOutcome) → layout_of files.layout.items ≡ Ok layout → AreTablesOf (program_input_of machine version files layout) units names index sframe outcome → ((error : DeriveError) → HasCauseIn (program_input_of machine version files layout) error → ⊥) → HasReport (IsInputOfFiles machine version files) index sframe outcome (report_of units names outcome index sframe)
+report_with machine version files layout units names index sframe outcome laid are none = record {
+  input = program_input_of machine version files layout;
+  read = files_input machine version files layout laid;
   units = units;
   names = names;
   tables = are;
@@ -66,59 +69,57 @@ report_with machine files layout units names index sframe outcome laid are none 
 }
 
 -- there was no call, or one with the report
-calls_with : (machine : Architecture) (files : FilesRead) (units : List CuBoundary) (names : List NameWords) (index sframe : List ℕ) (outcome : SframeOutcome) (writes : Writes) → HasReport (IsInputOfFiles machine files) index sframe outcome (report_of units names outcome index sframe) → (writes.puts_now ≡ writes.puts) ⊎ IsPutOnce writes (report_of units names outcome index sframe) → (writes.puts_now ≡ writes.puts) ⊎ IsAttempted (IsInputOfFiles machine files) writes
-calls_with machine files units names index sframe outcome writes reported (inl none) = inl none
-calls_with machine files units names index sframe outcome writes reported (inr once) =
-    inr (record { index = index; sframe = sframe; outcome = outcome; text = report_of units names outcome index sframe; reported = reported; once = once })
+calls_with : (machine : Architecture) (version : IndexVersion) (files : FilesRead) (units : List CuBoundary) (names : List NameWords) (index sframe : List ℕ) (outcome : SframeOutcome) (writes : Writes) → HasReport (IsInputOfFiles machine version files) index sframe outcome (report_of units names outcome index sframe) → (writes.puts_now ≡ writes.puts) ⊎ IsPutOnce writes (report_of units names outcome index sframe) → (writes.puts_now ≡ writes.puts) ⊎ IsAttempted (IsReportOfFiles machine version files) writes
+calls_with machine version files units names index sframe outcome writes reported (inl none) = inl none
+calls_with machine version files units names index sframe outcome writes reported (inr once) =
+    inr (record { text = report_of units names outcome index sframe; told = (index, sframe, outcome, reported); once = once })
 
-pub after_writing : (machine : Architecture) (files : FilesRead) (layout : LayoutEntries) (units : List CuBoundary) (names : List NameWords) (index sframe : List ℕ) (outcome : SframeOutcome) (writes : Writes) (ran : Ran) → layout_of files.layout.items ≡ Ok layout → AreTablesOf (program_input_of machine files layout) units names index sframe outcome → ((error : DeriveError) → HasCauseIn (program_input_of machine files layout) error → ⊥) → IsWritingOf units names index sframe outcome writes ran → IsAnswerFor machine files writes ran
-after_writing machine files layout units names index sframe outcome writes (Done tables) laid are none (i, s, o, put) = record {
+pub after_writing : (machine : Architecture) (version : IndexVersion) (files : FilesRead) (layout : LayoutEntries) (units : List CuBoundary) (names : List NameWords) (index sframe : List ℕ) (outcome : SframeOutcome) (writes : Writes) (ran : Ran) → layout_of files.layout.items ≡ Ok layout → AreTablesOf (program_input_of machine version files layout) units names index sframe outcome → ((error : DeriveError) → HasCauseIn (program_input_of machine version files layout) error → ⊥) → IsWritingOf units names index sframe outcome writes ran → IsAnswerFor machine version files writes ran
+after_writing machine version files layout units names index sframe outcome writes (Done tables) laid are none (i, s, o, put) = record {
   text = report_of units names outcome index sframe;
   reported = record {
-    input = program_input_of machine files layout;
-    read = files_input machine files layout laid;
+    input = program_input_of machine version files layout;
+    read = files_input machine version files layout laid;
     units = units;
     names = names;
-    tables = tables_named (program_input_of machine files layout) units names _ _ _ _ _ _ i s o are;
+    tables = tables_named (program_input_of machine version files layout) units names _ _ _ _ _ _ i s o are;
     no_cause = none;
     report = report_named units names _ _ _ _ _ _ i s o;
   };
   put = put;
 }
-after_writing machine files layout units names index sframe outcome writes WriteFault laid are none put = record {
-  index = index;
-  sframe = sframe;
-  outcome = outcome;
+after_writing machine version files layout units names index sframe outcome writes WriteFault laid are none put = record {
   text = report_of units names outcome index sframe;
-  reported = report_with machine files layout units names index sframe outcome laid are none;
+  told = (index, sframe, outcome, report_with machine version files layout units names index sframe outcome laid are none);
   put = put;
 }
-after_writing machine files layout units names index sframe outcome writes NoMemory laid are none (same, calls) = record {
+after_writing machine version files layout units names index sframe outcome writes NoMemory laid are none (same, calls) = record {
   written = same;
-  calls = calls_with machine files units names index sframe outcome writes (report_with machine files layout units names index sframe outcome laid are none) calls;
+  calls = calls_with machine version files units names index sframe outcome writes (report_with machine version files layout units names index sframe outcome laid are none) calls;
 }
-after_writing machine files layout units names index sframe outcome writes (Refused error) laid are none never = absurd never
-after_writing machine files layout units names index sframe outcome writes (BadWords k) laid are none never = absurd never
-after_writing machine files layout units names index sframe outcome writes (BadLayout line) laid are none never = absurd never
-after_writing machine files layout units names index sframe outcome writes (ReadFault k) laid are none never = absurd never
-after_writing machine files layout units names index sframe outcome writes (FileTooLong k) laid are none never = absurd never
+after_writing machine version files layout units names index sframe outcome writes ran laid are none never = absurd never
 
-pub after_refusal : (machine : Architecture) (files : FilesRead) (layout : LayoutEntries) (error : DeriveError) (writes : Writes) (ran : Ran) → layout_of files.layout.items ≡ Ok layout → (error ≡ errors.NoMemory) ⊎ HasCauseIn (program_input_of machine files layout) error → (HasTables (program_input_of machine files layout) → error ≡ errors.NoMemory) → ((other : DeriveError) → HasCauseIn (program_input_of machine files layout) other → (error ≡ other) ⊎ (error ≡ errors.NoMemory)) → IsSilent writes → IsRefusalOf error ran → IsAnswerFor machine files writes ran
-after_refusal machine files layout error writes (Refused answered) laid cause complete exact silent (is, not_memory) = (
+pub after_refusal : (machine : Architecture) (version : IndexVersion) (files : FilesRead) (layout : LayoutEntries) (error : DeriveError) (writes : Writes) (ran : Ran) → layout_of files.layout.items ≡ Ok layout → (error ≡ errors.NoMemory) ⊎ HasCauseIn (program_input_of machine version files layout) error → (HasTables (program_input_of machine version files layout) → error ≡ errors.NoMemory) → ((other : DeriveError) → HasCauseIn (program_input_of machine version files layout) other → (error ≡ other) ⊎ (error ≡ errors.NoMemory)) → IsSilent writes → IsRefusalOf error ran → IsAnswerFor machine version files writes ran
+after_refusal machine version files layout error writes (Refused answered) laid cause complete exact silent (is, not_memory) = (
   record {
-    input = program_input_of machine files layout;
-    read = files_input machine files layout laid;
-    cause = let P : DeriveError → Type 0 = λ e. HasCauseIn (program_input_of machine files layout) e in elim cause [ inl memory ↦ absurd (not_memory memory) | inr other ↦ subst P (sym is) other ];
+    input = program_input_of machine version files layout;
+    read = files_input machine version files layout laid;
+    cause = let P : DeriveError → Type 0 = λ e. HasCauseIn (program_input_of machine version files layout) e in elim cause [ inl memory ↦ absurd (not_memory memory) | inr other ↦ subst P (sym is) other ];
     not_memory = λ e. not_memory (sym is ∙ e);
     only = λ other has. elim (exact other has) [ inl e ↦ sym e ∙ sym is | inr e ↦ absurd (not_memory e) ];
     no_tables = λ has. not_memory (complete has);
   },
   silent,
 )
-after_refusal machine files layout error writes NoMemory laid cause complete exact silent is = record { written = silent.written; calls = inl silent.puts }
-after_refusal machine files layout error writes (Done tables) laid cause complete exact silent never = absurd never
-after_refusal machine files layout error writes WriteFault laid cause complete exact silent never = absurd never
-after_refusal machine files layout error writes (BadWords k) laid cause complete exact silent never = absurd never
-after_refusal machine files layout error writes (BadLayout line) laid cause complete exact silent never = absurd never
-after_refusal machine files layout error writes (ReadFault k) laid cause complete exact silent never = absurd never
-after_refusal machine files layout error writes (FileTooLong k) laid cause complete exact silent never = absurd never
+after_refusal machine version files layout error writes NoMemory laid cause complete exact silent is = record { written = silent.written; calls = inl silent.puts }
+after_refusal machine version files layout error writes ran laid cause complete exact silent never = absurd never
+
+-- from the writing of a reply's text to the answer of the query
+pub after_reply : (query : Query) (bytes : List ℕ) (reply : Reply) (text : List ℕ) (writes : Writes) (ran : Ran) → IsReply query bytes reply → reply_text query bytes reply ≡ Some text → IsReplyWriting reply text writes ran → IsQueryAnswer query bytes writes ran
+after_reply query bytes reply text writes WriteFault replies is put = record { text = text; told = (reply, replies, is); put = put }
+after_reply query bytes reply text writes NoMemory replies is (same, inl none) = record { written = same; calls = inl none }
+after_reply query bytes reply text writes NoMemory replies is (same, inr once) = record { written = same; calls = inr (record { text = text; told = (reply, replies, is); once = once }) }
+after_reply query bytes reply text writes ran replies is (answered, put) =
+    let P : Option Reply → Type 0 = λ r. IsReplyOf query bytes writes r in
+    let Q : Option (List ℕ) → Type 0 = λ t. IsWhole writes t in
+    subst P (sym answered) (replies, subst Q (sym is) put)

@@ -1,31 +1,37 @@
 -- From the answer for the files that were read to the answer of the whole run.
-use Rattle.std.proofs.Common.{◌≡◌, ◌+◌, ℕ, ◌++◌, List, length, IfSome, Result, Ok, Err, IsTrue, refl, sym, ap, subst, ◌∙◌, ◌⊎◌, inl, inr}
+use Rattle.std.proofs.Common.{◌≡◌, ◌+◌, ℕ, ◌++◌, List, [], ◌∷◌, length, IfSome, Option, Some, None, Result, Ok, Err, IsTrue, refl, sym, ap, subst, ◌∙◌, ◌⊎◌, inl, inr}
 use Rattle.std.proofs.Math.Seq.{take-length}
 use Rattle.sframe_format.specs.declared.fault.SframeOutcome.{SframeOutcome}
 use Rattle.elf_format.specs.declared.architecture.Architecture.{Architecture}
 use Rattle.elf_format.specs.Span.{AreInside}
+use Rattle.gdb_index_format.specs.declared.version.IndexVersion.{IndexVersion}
 use Rattle.program_files.specs.declared.files_read.FilesRead.{FilesRead}
 use Rattle.program_files.specs.declared.error.ReadError.{ReadError}
 use Rattle.program_files.specs.declared.error.ReadError.TheVariants as read
-use Rattle.program_files.specs.Reading.{file_limit, texts_read, read_of, file_names}
-use Rattle.program_io.specs.Contents.{Contents}
+use Rattle.program_files.specs.Reading.{Texts, file_limit, texts_read, read_of, reading_fault, within, asked_file, file_names}
+use Rattle.program_io.specs.Contents.{Contents, file_of}
 use Rattle.program_io.specs.Counting.{Rose, RoseBy}
-use Rattle.program_text.specs.Command.{Tables, command_of, NamesFile}
+use Rattle.program_text.specs.Command.{Request, command_of, for_tables, for_query, NamesFile}
+use Rattle.program_text.specs.Query.{Query, file_asked}
+use Rattle.program_text.specs.Tables.{Tables, version_of}
 use Rattle.derive_program.specs.declared.ran.Ran.{Ran}
-use Rattle.derive_program.specs.declared.ran.Ran.TheVariants.{Done, Refused, BadWords, BadLayout, ReadFault, FileTooLong, WriteFault, NoMemory}
-use Rattle.derive_program.specs.Answer.{IsInputOfFiles, IsAnswerFor, ran_of_reading}
+use Rattle.derive_program.specs.declared.ran.Ran.TheVariants.{Done, Found, Located, Absent, Refused, RefusedIndex, RefusedFrames, BadWords, BadLayout, ReadFault, FileTooLong, WriteFault, NoMemory}
+use Rattle.derive_program.specs.steps.Answer.{IsInputOfFiles, IsReportOfFiles, IsAnswerFor, IsTextOfReply, IsQueryAnswer, ran_of_reading}
 use Rattle.derive_program.specs.Calls.{HasReadFor, HasReadOf, read_faults_after}
-use Rattle.derive_program.specs.Cause.{HasReport, IsAttempted, Reads, IsRunOf}
+use Rattle.derive_program.specs.Cause.{HasReport, HasText, of_tables, of_query, IsReplyWritten, IsAttempted, IsNotWritten, Reads, IsRunOf}
 use Rattle.derive_program.specs.ProgramInput.{ProgramInput, IsInputOf}
-use Rattle.derive_program.specs.Writing.{Writes, IsSilent}
+use Rattle.std.specs.Result.{result_err}
+use Rattle.derive_program.specs.Reply.{Reply, IsReply, reply_text}
+use Rattle.derive_program.specs.Writing.{Writes, IsSilent, IsWhole}
 
 -- files that a command's arguments name, as an input of the arguments
-input_read : (held : Contents) (words : List (List ℕ)) (command : Tables) (files : FilesRead) → command_of words ≡ Ok command → IfSome held (λ contents. read_of contents command ≡ Ok (texts_read files)) → AreInside (length files.buffer.items) files.objects.items → (input : ProgramInput) → IsInputOfFiles command.machine files input → IsInputOf held words input
-input_read held words command files said known inside input of =
+input_read : (held : Contents) (words : List (List ℕ)) (command : Tables) (version : IndexVersion) (files : FilesRead) → version ≡ version_of command → command_of words ≡ Ok (for_tables command) → IfSome held (λ contents. read_of contents command ≡ Ok (texts_read files)) → AreInside (length files.buffer.items) files.objects.items → (input : ProgramInput) → IsInputOfFiles command.machine version files input → IsInputOf held words input
+input_read held words command version files version-is said known inside input of =
     subst (IsInputOf held words) (sym of.is) (record {
       command = command;
       said = said;
       machine = refl;
+      version = version-is;
       text = files.layout.items;
       read = known;
       laid = of.laid;
@@ -43,27 +49,28 @@ report_as Of To index sframe text outcome onto reported = record {
   report = reported.report;
 }
 
-calls_as : (Of To : ProgramInput → Type 0) (writes : Writes) → ((input : ProgramInput) → Of input → To input) → (writes.puts_now ≡ writes.puts) ⊎ IsAttempted Of writes → (writes.puts_now ≡ writes.puts) ⊎ IsAttempted To writes
-calls_as Of To writes onto (inl none) = inl none
-calls_as Of To writes onto (inr put) = inr (record {
-  index = put.index;
-  sframe = put.sframe;
-  outcome = put.outcome;
-  text = put.text;
-  reported = report_as Of To _ _ _ _ onto put.reported;
-  once = put.once;
-})
+calls_as : (Of To : List ℕ → Type 0) (writes : Writes) → ((text : List ℕ) → Of text → To text) → IsNotWritten Of writes → IsNotWritten To writes
+calls_as Of To writes onto none = record { written = none.written; calls = at none.calls }
+  where
+    at : (writes.puts_now ≡ writes.puts) ⊎ IsAttempted Of writes → (writes.puts_now ≡ writes.puts) ⊎ IsAttempted To writes
+    at (inl same) = inl same
+    at (inr put) = inr (record { text = put.text; told = onto put.text put.told; once = put.once })
 
-pub run_of_answer : (words : List (List ℕ)) (reads : Reads) (writes : Writes) (command : Tables) (files : FilesRead) (ran : Ran) → command_of words ≡ Ok command → IfSome reads.held (λ contents. read_of contents command ≡ Ok (texts_read files)) → AreInside (length files.buffer.items) files.objects.items → IsAnswerFor command.machine files writes ran → IsRunOf words reads writes ran
-run_of_answer words reads writes command files (Done tables) said known inside cause = record {
+-- the report of the files' tables, as the text of the arguments
+told_tables : (held : Contents) (words : List (List ℕ)) (command : Tables) (version : IndexVersion) (files : FilesRead) → version ≡ version_of command → command_of words ≡ Ok (for_tables command) → IfSome held (λ contents. read_of contents command ≡ Ok (texts_read files)) → AreInside (length files.buffer.items) files.objects.items → (text : List ℕ) → IsReportOfFiles command.machine version files text → HasText held words text
+told_tables held words command version files version-is said known inside text (index, sframe, outcome, reported) =
+    of_tables index sframe outcome (report_as _ _ _ _ _ _ (input_read held words command version files version-is said known inside) reported)
+
+pub run_of_answer : (words : List (List ℕ)) (reads : Reads) (writes : Writes) (command : Tables) (version : IndexVersion) (files : FilesRead) (ran : Ran) → version ≡ version_of command → command_of words ≡ Ok (for_tables command) → IfSome reads.held (λ contents. read_of contents command ≡ Ok (texts_read files)) → AreInside (length files.buffer.items) files.objects.items → IsAnswerFor command.machine version files writes ran → IsRunOf words reads writes ran
+run_of_answer words reads writes command version files (Done tables) version-is said known inside cause = record {
   text = cause.text;
-  reported = report_as _ _ _ _ _ _ (input_read reads.held words command files said known inside) cause.reported;
+  reported = report_as _ _ _ _ _ _ (input_read reads.held words command version files version-is said known inside) cause.reported;
   put = cause.put;
 }
-run_of_answer words reads writes command files (Refused error) said known inside (cause, silent) = (
+run_of_answer words reads writes command version files (Refused error) version-is said known inside (cause, silent) = (
   record {
     input = cause.input;
-    read = input_read reads.held words command files said known inside cause.input cause.read;
+    read = input_read reads.held words command version files version-is said known inside cause.input cause.read;
     cause = cause.cause;
     not_memory = cause.not_memory;
     only = cause.only;
@@ -71,7 +78,7 @@ run_of_answer words reads writes command files (Refused error) said known inside
   },
   silent,
 )
-run_of_answer words reads writes command files (BadLayout line) said known inside (wrong, silent) = (
+run_of_answer words reads writes command version files (BadLayout line) version-is said known inside (wrong, silent) = (
   record {
     command = command;
     said = said;
@@ -81,59 +88,44 @@ run_of_answer words reads writes command files (BadLayout line) said known insid
   },
   silent,
 )
-run_of_answer words reads writes command files WriteFault said known inside cause = record {
-  index = cause.index;
-  sframe = cause.sframe;
-  outcome = cause.outcome;
+run_of_answer words reads writes command version files WriteFault version-is said known inside cause = record {
   text = cause.text;
-  reported = report_as _ _ _ _ _ _ (input_read reads.held words command files said known inside) cause.reported;
+  told = told_tables reads.held words command version files version-is said known inside cause.text cause.told;
   put = cause.put;
 }
-run_of_answer words reads writes command files NoMemory said known inside cause = (
-  (command, said),
-  record { written = cause.written; calls = calls_as _ _ writes (input_read reads.held words command files said known inside) cause.calls },
+run_of_answer words reads writes command version files NoMemory version-is said known inside cause = (
+  (for_tables command, said),
+  calls_as _ _ writes (told_tables reads.held words command version files version-is said known inside) cause,
 )
-run_of_answer words reads writes command files (BadWords k) said known inside never = absurd never
-run_of_answer words reads writes command files (ReadFault k) said known inside never = absurd never
-run_of_answer words reads writes command files (FileTooLong k) said known inside never = absurd never
+run_of_answer words reads writes command version files ran version-is said known inside never = absurd never
 
 -- what was read for a command, as it was read for its arguments
-read_for : (result : Result Tables ℕ) (command : Tables) (old new : List (List ℕ)) (ran : Ran) → result ≡ Ok command → HasReadFor command old new ran → HasReadOf result old new ran
-read_for result command old new ran said has = let P : Result Tables ℕ → Type 0 = λ r. HasReadOf r old new ran in subst P (sym said) has
+read_for : (result : Result Request ℕ) (command : Request) (old new : List (List ℕ)) (ran : Ran) → result ≡ Ok command → HasReadFor command old new ran → HasReadOf result old new ran
+read_for result command old new ran said has = let P : Result Request ℕ → Type 0 = λ r. HasReadOf r old new ran in subst P (sym said) has
 
 -- all files were read for an answer that comes after the reading
-after_reading : (machine : Architecture) (files : FilesRead) (writes : Writes) (command : Tables) (old new : List (List ℕ)) (ran : Ran) → new ≡ old ++ file_names command → IsAnswerFor machine files writes ran → HasReadFor command old new ran
-after_reading machine files writes command old new (Done tables) all cause = all
-after_reading machine files writes command old new (Refused error) all cause = all
-after_reading machine files writes command old new (BadLayout line) all cause = all
-after_reading machine files writes command old new WriteFault all cause = all
-after_reading machine files writes command old new NoMemory all cause =
+pub after_reading : (machine : Architecture) (version : IndexVersion) (files : FilesRead) (writes : Writes) (command : Tables) (old new : List (List ℕ)) (ran : Ran) → new ≡ old ++ file_names command → IsAnswerFor machine version files writes ran → HasReadFor (for_tables command) old new ran
+after_reading machine version files writes command old new NoMemory all cause =
     (length (file_names command), all ∙ ap (λ (l : List (List ℕ)). old ++ l) (sym (take-length (file_names command))))
-after_reading machine files writes command old new (BadWords k) all never = absurd never
-after_reading machine files writes command old new (ReadFault k) all never = absurd never
-after_reading machine files writes command old new (FileTooLong k) all never = absurd never
+after_reading machine version files writes command old new (BadWords k) all never = absurd never
+after_reading machine version files writes command old new (ReadFault k) all never = absurd never
+after_reading machine version files writes command old new (FileTooLong k) all never = absurd never
+after_reading machine version files writes command old new ran all cause = all
 
-pub reads_after : (machine : Architecture) (files : FilesRead) (writes : Writes) (result : Result Tables ℕ) (command : Tables) (old new : List (List ℕ)) (ran : Ran) → result ≡ Ok command → new ≡ old ++ file_names command → IsAnswerFor machine files writes ran → HasReadOf result old new ran
-reads_after machine files writes result command old new ran said all cause =
-    read_for result command old new ran said (after_reading machine files writes command old new ran all cause)
+pub reads_after : (result : Result Request ℕ) (command : Request) (old new : List (List ℕ)) (ran : Ran) → result ≡ Ok command → HasReadFor command old new ran → HasReadOf result old new ran
+reads_after result command old new ran said has = read_for result command old new ran said has
 
 -- no read failed where the files were read
-pub counted_after : (machine : Architecture) (files : FilesRead) (writes : Writes) (before now : ℕ) (ran : Ran) → now ≡ before → IsAnswerFor machine files writes ran → now ≡ read_faults_after ran before
-counted_after machine files writes before now (Done tables) same cause = same
-counted_after machine files writes before now (Refused error) same cause = same
-counted_after machine files writes before now (BadLayout line) same cause = same
-counted_after machine files writes before now WriteFault same cause = same
-counted_after machine files writes before now NoMemory same cause = same
-counted_after machine files writes before now (BadWords k) same cause = same
-counted_after machine files writes before now (ReadFault k) same never = absurd never
-counted_after machine files writes before now (FileTooLong k) same cause = same
+pub counted_after : (machine : Architecture) (version : IndexVersion) (files : FilesRead) (writes : Writes) (before now : ℕ) (ran : Ran) → now ≡ before → IsAnswerFor machine version files writes ran → now ≡ read_faults_after ran before
+counted_after machine version files writes before now (ReadFault k) same never = absurd never
+counted_after machine version files writes before now ran same cause = same
 
 -- the answer to an error of reading, with its cause
-pub run_of_error : (words : List (List ℕ)) (reads : Reads) (writes : Writes) (command : Tables) (error : ReadError) (ran : Ran) → command_of words ≡ Ok command → ran ≡ ran_of_reading error → IsSilent writes → ((k : ℕ) → error ≡ read.Unread k → NamesFile command k × Rose reads.faults reads.faults_now) → ((k : ℕ) → error ≡ read.TooLong k → NamesFile command k × RoseBy (file_limit + 1) reads.taken reads.taken_now) → ((k : ℕ) → error ≡ read.TooLong k → IfSome reads.held (λ files. read_of files command ≡ Err (read.TooLong k))) → ((k : ℕ) → error ≡ read.Unread k → IsTrue reads.steady → IfSome reads.held (λ files. read_of files command ≡ Err (read.Unread k))) → IsRunOf words reads writes ran
+pub run_of_error : (words : List (List ℕ)) (reads : Reads) (writes : Writes) (command : Request) (error : ReadError) (ran : Ran) → command_of words ≡ Ok command → ran ≡ ran_of_reading error → IsSilent writes → ((k : ℕ) → error ≡ read.Unread k → NamesFile command k × Rose reads.faults reads.faults_now) → ((k : ℕ) → error ≡ read.TooLong k → NamesFile command k × RoseBy (file_limit + 1) reads.taken reads.taken_now) → ((k : ℕ) → error ≡ read.TooLong k → IfSome reads.held (λ files. reading_fault files command ≡ Some (read.TooLong k))) → ((k : ℕ) → error ≡ read.Unread k → IsTrue reads.steady → IfSome reads.held (λ files. reading_fault files command ≡ Some (read.Unread k))) → IsRunOf words reads writes ran
 run_of_error words reads writes command error ran said is silent unread too_long longer missing =
     subst (IsRunOf words reads writes) (sym is) (at error unread too_long longer missing)
   where
-    at : (error : ReadError) → ((k : ℕ) → error ≡ read.Unread k → NamesFile command k × Rose reads.faults reads.faults_now) → ((k : ℕ) → error ≡ read.TooLong k → NamesFile command k × RoseBy (file_limit + 1) reads.taken reads.taken_now) → ((k : ℕ) → error ≡ read.TooLong k → IfSome reads.held (λ files. read_of files command ≡ Err (read.TooLong k))) → ((k : ℕ) → error ≡ read.Unread k → IsTrue reads.steady → IfSome reads.held (λ files. read_of files command ≡ Err (read.Unread k))) → IsRunOf words reads writes (ran_of_reading error)
+    at : (error : ReadError) → ((k : ℕ) → error ≡ read.Unread k → NamesFile command k × Rose reads.faults reads.faults_now) → ((k : ℕ) → error ≡ read.TooLong k → NamesFile command k × RoseBy (file_limit + 1) reads.taken reads.taken_now) → ((k : ℕ) → error ≡ read.TooLong k → IfSome reads.held (λ files. reading_fault files command ≡ Some (read.TooLong k))) → ((k : ℕ) → error ≡ read.Unread k → IsTrue reads.steady → IfSome reads.held (λ files. reading_fault files command ≡ Some (read.Unread k))) → IsRunOf words reads writes (ran_of_reading error)
     at (read.Unread k) unread too_long longer missing = (
       record { command = command; said = said; names = (unread k refl).0; rose = (unread k refl).1; missing = missing k refl },
       silent,
@@ -146,3 +138,73 @@ run_of_error words reads writes command error ran said is silent unread too_long
 
 pub error_of : {T : Type 0} (a b : ReadError) → a ≡ b → (let r : Result T ReadError = Err a in r) ≡ Err b
 error_of a b is = ap (λ e. Err e) is
+
+-- an error of the files of `tables`, as one of the command
+pub tables_fault : (held : Contents) (command : Tables) (error : ReadError) → IfSome held (λ files. read_of files command ≡ Err error) → IfSome held (λ files. reading_fault files (for_tables command) ≡ Some error)
+tables_fault None command error told = tt
+tables_fault (Some files) command error told = ap (λ (r : Result Texts ReadError). result_err r) told
+
+-- what is known of a file by its name is known of the file of the query
+asked_as : (held : Contents) (query : Query) (name : List ℕ) (result : Result (List ℕ) ReadError) → name ≡ file_asked query → IfSome held (λ files. within 1 file_limit (file_of files name) ≡ result) → IfSome held (λ files. asked_file files query ≡ result)
+asked_as None query name result is told = tt
+asked_as (Some files) query name result is told = let P : List ℕ → Type 0 = λ n. within 1 file_limit (file_of files n) ≡ result in subst P is told
+
+-- the text of a reply, as the text of the arguments
+told_query : (held : Contents) (words : List (List ℕ)) (query : Query) (bytes : List ℕ) → command_of words ≡ Ok (for_query query) → IfSome held (λ files. asked_file files query ≡ Ok bytes) → (text : List ℕ) → IsTextOfReply query bytes text → HasText held words text
+told_query held words query bytes said known text (reply, replies, is) = of_query reply (record {
+  query = query;
+  said = said;
+  bytes = bytes;
+  read = known;
+  replies = replies;
+  text_is = is;
+})
+
+-- a reply for the bytes of the file, as one to the arguments
+reply_to : (held : Contents) (words : List (List ℕ)) (query : Query) (bytes : List ℕ) (reply : Reply) (writes : Writes) → command_of words ≡ Ok (for_query query) → IfSome held (λ files. asked_file files query ≡ Ok bytes) → IsReply query bytes reply → IsWhole writes (reply_text query bytes reply) → IsReplyWritten held words reply writes
+reply_to held words query bytes reply writes said known replies whole = record {
+  text = reply_text query bytes reply;
+  replied = record {
+    query = query;
+    said = said;
+    bytes = bytes;
+    read = known;
+    replies = replies;
+    text_is = refl;
+  };
+  whole = whole;
+}
+
+run_of_query : (words : List (List ℕ)) (reads : Reads) (writes : Writes) (query : Query) (bytes : List ℕ) (ran : Ran) → command_of words ≡ Ok (for_query query) → IfSome reads.held (λ files. asked_file files query ≡ Ok bytes) → IsQueryAnswer query bytes writes ran → IsRunOf words reads writes ran
+run_of_query words reads writes query bytes (Found answer) said known (replies, whole) = reply_to reads.held words query bytes _ writes said known replies whole
+run_of_query words reads writes query bytes (Located index) said known (replies, whole) = reply_to reads.held words query bytes _ writes said known replies whole
+run_of_query words reads writes query bytes Absent said known (replies, whole) = reply_to reads.held words query bytes _ writes said known replies whole
+run_of_query words reads writes query bytes (RefusedIndex fault) said known (replies, whole) = reply_to reads.held words query bytes _ writes said known replies whole
+run_of_query words reads writes query bytes (RefusedFrames fault) said known (replies, whole) = reply_to reads.held words query bytes _ writes said known replies whole
+run_of_query words reads writes query bytes WriteFault said known cut = record {
+  text = cut.text;
+  told = told_query reads.held words query bytes said known cut.text cut.told;
+  put = cut.put;
+}
+run_of_query words reads writes query bytes NoMemory said known none = ((for_query query, said), calls_as _ _ writes (told_query reads.held words query bytes said known) none)
+run_of_query words reads writes query bytes ran said known never = absurd never
+
+pub run_of_read : (words : List (List ℕ)) (reads : Reads) (writes : Writes) (query : Query) (name bytes given : List ℕ) (ran : Ran) → command_of words ≡ Ok (for_query query) → name ≡ file_asked query → given ≡ bytes → IfSome reads.held (λ files. within 1 file_limit (file_of files name) ≡ Ok bytes) → IsQueryAnswer query given writes ran → IsRunOf words reads writes ran
+run_of_read words reads writes query name bytes given ran said is given_is known answer =
+    let P : List ℕ → Type 0 = λ b. IsQueryAnswer query b writes ran in
+    run_of_query words reads writes query bytes ran said (asked_as reads.held query name (Ok bytes) is known) (subst P given_is answer)
+
+-- the file was read for an answer that comes after the reading, and no read failed
+pub after_query : (query : Query) (bytes name : List ℕ) (writes : Writes) (old new : List (List ℕ)) (ran : Ran) → name ≡ file_asked query → new ≡ old ++ name ∷ [] → IsQueryAnswer query bytes writes ran → HasReadFor (for_query query) old new ran
+after_query query bytes name writes old new ran is all cause = at ran (all ∙ ap (λ n. old ++ n ∷ []) is) cause
+  where
+    at : (ran : Ran) → new ≡ old ++ file_asked query ∷ [] → IsQueryAnswer query bytes writes ran → HasReadFor (for_query query) old new ran
+    at NoMemory all cause = (1, all)
+    at (BadWords k) all never = absurd never
+    at (ReadFault k) all never = absurd never
+    at (FileTooLong k) all never = absurd never
+    at ran all cause = all
+
+pub counted_query : (query : Query) (bytes : List ℕ) (writes : Writes) (before now : ℕ) (ran : Ran) → now ≡ before → IsQueryAnswer query bytes writes ran → now ≡ read_faults_after ran before
+counted_query query bytes writes before now (ReadFault k) same never = absurd never
+counted_query query bytes writes before now ran same cause = same

@@ -2,6 +2,8 @@
 
 use crate::Ran;
 use derivation::DeriveError;
+use sframe_find::FindFault;
+use sframe_format::SframeError;
 use std::fmt;
 
 /// Writes an error of the tables, as `BadUnit 0 12 Truncated`.
@@ -42,12 +44,36 @@ fn write_error<W: fmt::Write>(f: &mut fmt::Formatter<W>, error: &DeriveError) ->
     }
 }
 
+/// Writes why an SFrame section cannot be searched, as `NotAscending 1`.
+fn write_find_fault<W: fmt::Write>(f: &mut fmt::Formatter<W>, fault: &FindFault) -> fmt::Result {
+    match fault {
+        FindFault::Short => write!(f, "Short"),
+        FindFault::Header(SframeError::BadMagicBytes(value)) => {
+            write!(f, "Header BadMagicBytes {value}")
+        }
+        FindFault::Header(SframeError::UnsupportedVersion(version)) => {
+            write!(f, "Header UnsupportedVersion {version}")
+        }
+        FindFault::NotSorted => write!(f, "NotSorted"),
+        FindFault::Truncated { kind, offset } => write!(f, "Truncated {kind:?} {offset}"),
+        FindFault::NotAscending(index) => write!(f, "NotAscending {index}"),
+    }
+}
+
 impl fmt::Display for Ran {
     fn fmt<W: fmt::Write>(&self, f: &mut fmt::Formatter<W>) -> fmt::Result {
         write!(f, "derive: ")?;
         match self {
             Ran::Done(_) => write!(f, "Done"),
+            Ran::Found(_) => write!(f, "Found"),
+            Ran::Located(index) => write!(f, "Located {index}"),
+            Ran::Absent => write!(f, "Absent"),
             Ran::Refused(error) => write_error(f, error),
+            Ran::RefusedIndex(fault) => write!(f, "RefusedIndex {fault:?}"),
+            Ran::RefusedFrames(fault) => {
+                write!(f, "RefusedFrames ")?;
+                write_find_fault(f, fault)
+            }
             Ran::BadWords(index) => write!(f, "BadWords {index}"),
             Ran::BadLayout(line) => write!(f, "BadLayout {line}"),
             Ran::ReadFault(index) => write!(f, "ReadFault {index}"),

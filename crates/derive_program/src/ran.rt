@@ -3,7 +3,9 @@ ghost use Rattle.std.specs.Prelude.{◌≡◌};
 ghost use Rattle.derive_program.specs.Status.{status_of};
 
 use derivation::DeriveError;
+use gdb_tables::BadIndex;
 use program_files::ReadError;
+use sframe_find::FindFault;
 use sframe_format::SframeOutcome;
 
 /// The tables that were derived.
@@ -17,13 +19,30 @@ pub struct Tables {
     pub outcome: SframeOutcome,
 }
 
+/// The CU vector that was found.
+#[derive(Debug, Drop)]
+pub struct FindAnswer {
+    /// The elements of the CU vector, in ascending order in an index that is well formed.
+    pub words: Vec<u32>,
+}
+
 /// What the program answers. Indexes of arguments count from 0, without the program's name; lines of the layout count from 1.
 #[derive(Debug, Drop)]
 pub enum Ran {
     /// The tables were derived, and their report was written.
     Done(Tables),
+    /// The name was found, and its CU vector was written.
+    Found(FindAnswer),
+    /// The function of this index is the last whose address is at most the one that was asked for, and its line was written.
+    Located(usize),
+    /// The index does not hold the name, or each function of the SFrame section is above the address.
+    Absent,
     /// The input has no tables.
     Refused(DeriveError),
+    /// The index is malformed.
+    RefusedIndex(BadIndex),
+    /// The SFrame section cannot be searched.
+    RefusedFrames(FindFault),
     /// The argument at this index is wrong or missing, and none before it is: a usage error.
     BadWords(usize),
     /// This line of the layout is malformed or a second base, and none before it is.
@@ -32,14 +51,14 @@ pub enum Ran {
     ReadFault(usize),
     /// The file of the argument at this index is longer than the limit left for it.
     FileTooLong(usize),
-    /// The report was not written whole.
+    /// The text of the command was not written whole.
     WriteFault,
     /// An allocation failed.
     NoMemory,
 }
 
 impl From<ReadError> for Ran {
-    ghost use Rattle.derive_program.specs.Answer.{ran_of_reading};
+    ghost use Rattle.derive_program.specs.steps.Answer.{ran_of_reading};
 
     ghost from_gives = { λ error ran. ran ≡ ran_of_reading error };
 
@@ -53,7 +72,7 @@ impl From<ReadError> for Ran {
 }
 
 impl From<DeriveError> for Ran {
-    ghost use Rattle.derive_program.specs.Answer.{IsRefusalOf};
+    ghost use Rattle.derive_program.specs.steps.Answer.{IsRefusalOf};
 
     ghost from_gives = { λ error ran. IsRefusalOf error ran };
 
@@ -71,14 +90,15 @@ impl Ran {
         ensures { result ≡ status_of self.now }
     {
         match self {
-            Ran::Done(_) => 0,
-            Ran::Refused(_) => 1,
+            Ran::Done(_) | Ran::Found(_) | Ran::Located(_) => 0,
+            Ran::Refused(_) | Ran::RefusedIndex(_) | Ran::RefusedFrames(_) => 1,
             Ran::BadWords(_) => 2,
             Ran::ReadFault(_) => 3,
             Ran::WriteFault => 4,
             Ran::BadLayout(_) => 5,
             Ran::NoMemory => 6,
             Ran::FileTooLong(_) => 7,
+            Ran::Absent => 8,
         }
     }
 }

@@ -1,23 +1,32 @@
 //! The steps of the program, one after another.
-ghost use Rattle.std.specs.Prelude.{◌≡◌, ◌≢◌, ◌≤◌, ◌↔◌, ◌⊎◌, ℕ, length, vec_len, false, IsTrue};
+ghost use Rattle.std.specs.Prelude.{◌≡◌, ◌≢◌, ◌≤◌, ◌↔◌, ◌⊎◌, ℕ, List, length, vec_len, false, Ok, Err, Some, IsTrue};
 ghost use Rattle.derivation.specs.declared.error.DeriveError.{DeriveError as DeriveError_spec};
 ghost use Rattle.derivation.specs.declared.error.DeriveError.TheVariants as DeriveError_variants;
 ghost use Rattle.program_io.specs.Counting.{Rose};
 ghost use Rattle.program_files.specs.Reading.{file_limit};
-ghost use Rattle.program_text.specs.Command.{object_limit, arguments_of, command_of};
-ghost use Rattle.derive_program.specs.Cause.{IsRunOf, IsReadFault, IsFileTooLong, IsBadLayout, IsRefused, IsFaulty, IsReported, IsCutOff, IsUnwritten, IsGood, IsWrongLayout, IsDoneOrNoMemory, IsDoneOrFault, IfDone, IfRefused};
-ghost use Rattle.derive_program.specs.Calls.{HasReadOf, read_faults_after, write_faults_after};
+ghost use Rattle.program_text.specs.Arguments.{arguments_of};
+ghost use Rattle.program_text.specs.Command.{command_of, for_tables, for_query};
+ghost use Rattle.program_text.specs.Query.{query_of};
+ghost use Rattle.program_text.specs.Tables.{object_limit, tables_of};
+ghost use Rattle.derive_program.specs.Cause.{IsRunOf, IsReadFault, IsFileTooLong, IsBadLayout, IsRefused, IsFaulty, IsReported, IsReplyWritten, HasText, IsCutOff, IsUnwritten, IsGood, IsAskable, IsWrongLayout, IsAnswerOf, IsReplyOrNoMemory, IsDoneOrNoMemory, IsDoneOrFault, IfDone, IfRefused};
+ghost use Rattle.derive_program.specs.Calls.{HasReadFor, HasReadOf, read_faults_after, write_faults_after};
 ghost use Rattle.derive_program.specs.ProgramInput.{IsInputOf};
+ghost use Rattle.derive_program.specs.Reply.{Reply, IsReply, reply_in};
 ghost use Rattle.derive_program.specs.Status.{may_write};
-ghost use Rattle.derive_program.specs.Answer.{IsAnswerFor};
-ghost use Rattle.derive_program.specs.Writing.{IsWritingOf};
+ghost use Rattle.derive_program.specs.steps.Answer.{IsAnswerFor, IsWritingOf, IsQueryAnswer};
 
+use crate::finding::find_read;
+use crate::laws::replies_are_one;
+use crate::locating::locate_read;
 use crate::{Ran, Tables};
-use derivation::{Derived, derive_tables};
+use derivation::{Derived, derive_tables, inside_is_no_bad_span};
 use elf_format::Architecture;
-use program_files::{FilesRead, read_files};
+use gdb_index_format::IndexVersion;
+use program_files::{FilesRead, read_files, read_named};
 use program_io::{Files, Sink, SinkFault};
-use program_text::{LayoutError, read_command, read_layout, report_text};
+use program_text::{
+    Command, LayoutError, Query, TablesCommand, read_command, read_layout, report_text,
+};
 use std::alloc::Global;
 
 /// Writes the report of tables, in one call.
@@ -49,13 +58,19 @@ fn write_report<S: Sink>(alloc: Global, derived: Derived<'_>, out: &mut S) -> Ra
 }
 
 /// Reads the layout, derives the tables and writes their report.
-fn derive_read<S: Sink>(alloc: Global, machine: Architecture, read: &FilesRead, out: &mut S) -> Ran
+fn derive_read<S: Sink>(
+    alloc: Global,
+    machine: Architecture,
+    version: IndexVersion,
+    read: &FilesRead,
+    out: &mut S,
+) -> Ran
     requires buffer { vec_len read.now.buffer ≤ file_limit }
     requires objects { length read.now.objects.items ≤ object_limit }
     ensures steady { S.steady out.new ≡ S.steady out.old }
     ensures faults { S.faults out.old ≤ S.faults out.new }
     ensures counted { S.faults out.new ≡ write_faults_after result (S.faults out.old) }
-    ensures answer { IsAnswerFor machine read.now (record { steady = S.steady out.old; faults = S.faults out.old; faults_now = S.faults out.new; written = S.written out.old; now = S.written out.new; puts = S.puts out.old; puts_now = S.puts out.new }) result }
+    ensures answer { IsAnswerFor machine version read.now (record { steady = S.steady out.old; faults = S.faults out.old; faults_now = S.faults out.new; written = S.written out.old; now = S.written out.new; puts = S.puts out.old; puts_now = S.puts out.new }) result }
 {
     let layout = match read_layout(alloc, &read.layout) {
         Ok(layout) => layout,
@@ -71,8 +86,71 @@ fn derive_read<S: Sink>(alloc: Global, machine: Architecture, read: &FilesRead, 
         &read.sframe,
         &layout.ranges,
         layout.base,
+        version,
     ) {
         Ok(derived) => write_report(alloc, derived, out),
+        Err(error) => Ran::from(error),
+    }
+}
+
+/// All steps of `tables`, with the cause of each answer.
+fn answer_tables<F: Files, S: Sink>(
+    alloc: Global,
+    command: &TablesCommand<'_>,
+    files: &mut F,
+    out: &mut S,
+) -> Ran
+    requires { length command.now.objects.now ≤ object_limit }
+    ensures held { F.held files.new ≡ F.held files.old }
+    ensures steady { F.steady files.new ≡ F.steady files.old }
+    ensures faults { F.faults files.old ≤ F.faults files.new }
+    ensures taken { F.taken files.old ≤ F.taken files.new }
+    ensures sink_steady { S.steady out.new ≡ S.steady out.old }
+    ensures sink_faults { S.faults out.old ≤ S.faults out.new }
+    ensures reads { HasReadFor (for_tables (tables_of command.now)) (F.reads files.old) (F.reads files.new) result }
+    ensures counted { F.faults files.new ≡ read_faults_after result (F.faults files.old) }
+    ensures sink_counted { S.faults out.new ≡ write_faults_after result (S.faults out.old) }
+    ensures cause { (words : List (List ℕ)) → command_of words ≡ Ok (for_tables (tables_of command.now)) → IsRunOf words (record { held = F.held files.old; steady = F.steady files.old; faults = F.faults files.old; faults_now = F.faults files.new; taken = F.taken files.old; taken_now = F.taken files.new }) (record { steady = S.steady out.old; faults = S.faults out.old; faults_now = S.faults out.new; written = S.written out.old; now = S.written out.new; puts = S.puts out.old; puts_now = S.puts out.new }) result }
+{
+    match read_files(alloc, command, files) {
+        Ok(read) => derive_read(alloc, command.machine, command.index_version(), &read, out),
+        Err(error) => Ran::from(error),
+    }
+}
+
+/// Looks up a query in the bytes of its file, and writes the text of what is found.
+fn answer_read<S: Sink>(alloc: Global, query: &Query<'_>, bytes: &[u8], out: &mut S) -> Ran
+    ensures steady { S.steady out.new ≡ S.steady out.old }
+    ensures faults { S.faults out.old ≤ S.faults out.new }
+    ensures counted { S.faults out.new ≡ write_faults_after result (S.faults out.old) }
+    ensures answer { IsQueryAnswer (query_of query.now) bytes.now (record { steady = S.steady out.old; faults = S.faults out.old; faults_now = S.faults out.new; written = S.written out.old; now = S.written out.new; puts = S.puts out.old; puts_now = S.puts out.new }) result }
+{
+    match query {
+        Query::Find(command) => find_read(alloc, command, bytes, out),
+        Query::Frame(command) => locate_read(alloc, command, bytes, out),
+    }
+}
+
+/// All steps of a query, with the cause of each answer.
+fn answer_query<F: Files, S: Sink>(
+    alloc: Global,
+    query: &Query<'_>,
+    files: &mut F,
+    out: &mut S,
+) -> Ran
+    ensures held { F.held files.new ≡ F.held files.old }
+    ensures steady { F.steady files.new ≡ F.steady files.old }
+    ensures faults { F.faults files.old ≤ F.faults files.new }
+    ensures taken { F.taken files.old ≤ F.taken files.new }
+    ensures sink_steady { S.steady out.new ≡ S.steady out.old }
+    ensures sink_faults { S.faults out.old ≤ S.faults out.new }
+    ensures reads { HasReadFor (for_query (query_of query.now)) (F.reads files.old) (F.reads files.new) result }
+    ensures counted { F.faults files.new ≡ read_faults_after result (F.faults files.old) }
+    ensures sink_counted { S.faults out.new ≡ write_faults_after result (S.faults out.old) }
+    ensures cause { (words : List (List ℕ)) → command_of words ≡ Ok (for_query (query_of query.now)) → IsRunOf words (record { held = F.held files.old; steady = F.steady files.old; faults = F.faults files.old; faults_now = F.faults files.new; taken = F.taken files.old; taken_now = F.taken files.new }) (record { steady = S.steady out.old; faults = S.faults out.old; faults_now = S.faults out.new; written = S.written out.old; now = S.written out.new; puts = S.puts out.old; puts_now = S.puts out.new }) result }
+{
+    match read_named(alloc, files, 1, query.file()) {
+        Ok(bytes) => answer_read(alloc, query, &bytes, out),
         Err(error) => Ran::from(error),
     }
 }
@@ -90,21 +168,20 @@ fn answer<F: Files, S: Sink>(alloc: Global, words: &[String], files: &mut F, out
     ensures sink_counted { S.faults out.new ≡ write_faults_after result (S.faults out.old) }
     ensures cause { IsRunOf (arguments_of words.now) (record { held = F.held files.old; steady = F.steady files.old; faults = F.faults files.old; faults_now = F.faults files.new; taken = F.taken files.old; taken_now = F.taken files.new }) (record { steady = S.steady out.old; faults = S.faults out.old; faults_now = S.faults out.new; written = S.written out.old; now = S.written out.new; puts = S.puts out.old; puts_now = S.puts out.new }) result }
 {
-    let command = match read_command(words) {
-        Ok(command) => command,
-        Err(index) => return Ran::BadWords(index),
-    };
-    match read_files(alloc, &command, files) {
-        Ok(read) => derive_read(alloc, command.machine, &read, out),
-        Err(error) => Ran::from(error),
+    match read_command(words) {
+        Ok(Command::Tables(command)) => answer_tables(alloc, &command, files, out),
+        Ok(Command::Query(query)) => answer_query(alloc, &query, files, out),
+        Err(index) => Ran::BadWords(index),
     }
 }
 
-/// Runs the program: reads the arguments, then the files that they name, each once and in the order of the arguments, then the layout,
-/// derives the tables, and puts their report into `out` in one call.
+/// Runs the program: reads the arguments, then the files that they name, each once and in the order of the arguments. For `tables` it then
+/// reads the layout, derives the tables, and puts their report into `out` in one call. For a query it looks up what is asked for in the
+/// bytes of the file, and puts the text of what is found into `out` in one call.
 ///
-/// An answer of a step comes only where every step before it succeeded. `out` is called by `Done` and by `WriteFault` alone, once, with
-/// the whole report; before `NoMemory` maybe once, and then nothing is written. After `WriteFault` a prefix of the report may be written.
+/// An answer of a step comes only where every step before it succeeded. `out` is called by `Done`, `Found`, `Located` and `WriteFault`
+/// alone, once, with the whole text; before `NoMemory` maybe once, and then nothing is written. After `WriteFault` a prefix of the text may
+/// be written.
 pub fn run<F: Files, S: Sink>(alloc: Global, words: &[String], files: &mut F, out: &mut S) -> Ran
     ensures held { F.held files.new ≡ F.held files.old }
     ensures steady { F.steady files.new ≡ F.steady files.old }
@@ -132,14 +209,21 @@ pub fn run<F: Files, S: Sink>(alloc: Global, words: &[String], files: &mut F, ou
 
     // The tables are those of the files, and exactly their report was put, in one call, and written; after a failed write a prefix of it is.
     ensures done { IfDone result (λ index sframe outcome. IsReported (IsInputOf (F.held files.old) (arguments_of words.now)) index sframe outcome (record { steady = S.steady out.old; faults = S.faults out.old; faults_now = S.faults out.new; written = S.written out.old; now = S.written out.new; puts = S.puts out.old; puts_now = S.puts out.new })) }
-    ensures cut_off { result ≡ Ran.WriteFault → IsCutOff (IsInputOf (F.held files.old) (arguments_of words.now)) (record { steady = S.steady out.old; faults = S.faults out.old; faults_now = S.faults out.new; written = S.written out.old; now = S.written out.new; puts = S.puts out.old; puts_now = S.puts out.new }) }
+    ensures cut_off { result ≡ Ran.WriteFault → IsCutOff (HasText (F.held files.old) (arguments_of words.now)) (record { steady = S.steady out.old; faults = S.faults out.old; faults_now = S.faults out.new; written = S.written out.old; now = S.written out.new; puts = S.puts out.old; puts_now = S.puts out.new }) }
     ensures unwritten { may_write result ≡ false → S.written out.new ≡ S.written out.old }
-    ensures silent { may_write result ≡ false → IsUnwritten (IsInputOf (F.held files.old) (arguments_of words.now)) (record { steady = S.steady out.old; faults = S.faults out.old; faults_now = S.faults out.new; written = S.written out.old; now = S.written out.new; puts = S.puts out.old; puts_now = S.puts out.new }) result }
+    ensures silent { may_write result ≡ false → IsUnwritten (HasText (F.held files.old) (arguments_of words.now)) (record { steady = S.steady out.old; faults = S.faults out.old; faults_now = S.faults out.new; written = S.written out.old; now = S.written out.new; puts = S.puts out.old; puts_now = S.puts out.new }) result }
+
+    // What a query answers is the reply for the bytes of its file, and exactly its text, where it has one, was put in one call, and written.
+    ensures replied { (reply : Reply) → reply_in result ≡ Some reply → IsReplyWritten (F.held files.old) (arguments_of words.now) reply (record { steady = S.steady out.old; faults = S.faults out.old; faults_now = S.faults out.new; written = S.written out.old; now = S.written out.new; puts = S.puts out.old; puts_now = S.puts out.new }) }
+    ensures reply_exact { (good : IsAskable (F.held files.old) (arguments_of words.now)) (reply : Reply) → IsReply good.query good.bytes reply → ¬ Rose (F.faults files.old) (F.faults files.new) ⊎ IsTrue (F.steady files.old) → IsAnswerOf good.query good.bytes reply result }
+    ensures reply_complete { IsAskable (F.held files.old) (arguments_of words.now) → ¬ Rose (F.faults files.old) (F.faults files.new) ⊎ IsTrue (F.steady files.old) → ¬ Rose (S.faults out.old) (S.faults out.new) ⊎ IsTrue (S.steady out.old) → IsReplyOrNoMemory result }
 
     // Good input is done, where no fault was counted or none can be; else memory ran out, or a read or the write failed.
     ensures complete { IsGood (F.held files.old) (arguments_of words.now) → ¬ Rose (F.faults files.old) (F.faults files.new) → ¬ Rose (S.faults out.old) (S.faults out.new) → IsDoneOrNoMemory result }
     ensures complete_steady { IsGood (F.held files.old) (arguments_of words.now) → IsTrue (F.steady files.old) → IsTrue (S.steady out.old) → IsDoneOrNoMemory result }
     ensures complete_or_fault { IsGood (F.held files.old) (arguments_of words.now) → IsDoneOrFault result }
 {
+    inside_is_no_bad_span();
+    replies_are_one();
     answer(alloc, words, files, out)
 }

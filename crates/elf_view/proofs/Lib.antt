@@ -1,3 +1,4 @@
+pub mod ClassNames
 pub mod NameLemmas
 pub mod RelocationLemmas
 pub mod SectionsFit

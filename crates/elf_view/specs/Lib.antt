@@ -3,3 +3,4 @@ pub mod SymbolSection
 pub mod SectionData
 pub mod Relocation
 pub mod RelocFault
+pub mod AnyFile

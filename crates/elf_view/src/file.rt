@@ -10,7 +10,7 @@ ghost use Rattle.elf_format.specs.Bytes.{get};
 ghost use Rattle.elf_format.specs.Class.{e_machine};
 ghost use Rattle.elf_format.specs.Section.{file_header, sections, section_bytes, section_name, section_of_name, is_name};
 ghost use Rattle.elf_format.specs.Symbol.{symbols, section_of_symbol};
-ghost use Rattle.elf_format.specs.Fault.{fault};
+ghost use Rattle.elf_format.specs.Fault.{class_of, fault};
 ghost use Rattle.elf_format.specs.Cursor.{Returns};
 ghost use Rattle.elf_relocs.specs.Lists.{listing_of_list};
 ghost use Rattle.elf_view.specs.SymbolSection.{IsSymbolSection};
@@ -110,6 +110,15 @@ impl<'a, C: ElfClass> File<'a, C> {
         ensures { result ≡ self.now.is_dynamic }
     {
         self.is_dynamic
+    }
+
+    /// Reports, by its clauses alone, that the file has no fault and that its bytes name its class.
+    pub fn well_formed(&self)
+        ensures sound { fault C.class self.now.is_dynamic self.now.bytes ≡ None }
+        ensures class { class_of self.now.bytes ≡ Some C.class }
+    {
+        // A field is read, so that the proof has what each file keeps.
+        let _read = self.is_dynamic;
     }
 
     /// Returns the machine that the file is for (`e_machine`).

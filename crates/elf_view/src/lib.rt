@@ -3,6 +3,7 @@
 //! the file's bytes and copies none. Little-endian files of both classes are read, by one generic code.
 #![tactic(auto)]
 
+mod any_file;
 mod enumerate;
 mod file;
 mod header;
@@ -16,6 +17,7 @@ mod symbol;
 mod symbol_table;
 mod version;
 
+pub use any_file::{AnyFile, class_is_named};
 pub use elf_format::{Architecture, ElfError};
 pub use enumerate::SectionEnum;
 pub use file::{File, SectionIter};

@@ -9,6 +9,8 @@ pub mod SlotLists
 pub mod Filling
 pub mod Tables
 pub mod Lengths
+pub mod Versions
+pub mod Headers
 pub mod UnitsRead
 pub mod Sounding
 pub mod Holding

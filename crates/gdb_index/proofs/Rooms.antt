@@ -21,28 +21,28 @@ some_unit units total size is some = elim (cases_eq units 0) [
 ]
 
 -- what the size of an index leaves for each part
-pub record HasRoomFor (s : Scan) (addresses slots size : ℕ) : Type 0 where
-  pub parts : pool_offset 9 (length s.units) addresses slots + vectors_len s.names + names_len s.names ≤ size
+pub record HasRoomFor (v : ℕ) (s : Scan) (addresses slots size : ℕ) : Type 0 where
+  pub parts : pool_offset v (length s.units) addresses slots + vectors_len s.names + names_len s.names ≤ size
   pub names : 4 * length s.names ≤ size
 
-pub room : (s : Scan) (addresses slots size : ℕ) → IsIndexSize 9 (scan_counts s) size → 1 ≤ size → addresses ≤ s.placed → IsSlotCount (length s.names) slots → HasRoomFor s addresses slots size
-room s addresses slots size is some few counts =
+pub room : (v : ℕ) (s : Scan) (addresses slots size : ℕ) → IsIndexSize v (scan_counts s) size → 1 ≤ size → addresses ≤ s.placed → IsSlotCount (length s.names) slots → HasRoomFor v s addresses slots size
+room v s addresses slots size is some few counts =
     let same : slots ≡ is.slots = one_slot_count (length s.names) slots is.slots counts is.counted in
-    let whole : size ≡ size_with 9 (format_counts (scan_counts s)) is.slots = some_unit (length s.units) (size_with 9 (format_counts (scan_counts s)) is.slots) size is.size_is some in
+    let whole : size ≡ size_with v (format_counts (scan_counts s)) is.slots = some_unit (length s.units) (size_with v (format_counts (scan_counts s)) is.slots) size is.size_is some in
     record {
       parts = omega (arith, same, whole, few, vectors_len-words s.names);
       names = omega (arith, whole);
     }
 
 -- the same by the units and names as they are held
-pub record HoldsRoom (units : List CuBoundary) (names : List NameWords) (addresses slots size : ℕ) : Type 0 where
+pub record HoldsRoom (v : ℕ) (units : List CuBoundary) (names : List NameWords) (addresses slots size : ℕ) : Type 0 where
   pub counts : IsSlotCount (length (all_named names)) slots
-  pub parts : pool_offset 9 (length units) addresses slots + vectors_len (all_named names) + names_len (all_named names) ≤ size
+  pub parts : pool_offset v (length units) addresses slots + vectors_len (all_named names) + names_len (all_named names) ≤ size
 
-pub room_held : (s : Scan) (units : List CuBoundary) (names : List NameWords) (addresses slots size : ℕ) → units ≡ s.units → all_named names ≡ s.names → IsSlotCount (length names) slots → IsIndexSize 9 (scan_counts s) size → 1 ≤ size → addresses ≤ s.placed → HoldsRoom units names addresses slots size
-room_held s units names addresses slots size us ns counts is some few =
+pub room_held : (v : ℕ) (s : Scan) (units : List CuBoundary) (names : List NameWords) (addresses slots size : ℕ) → units ≡ s.units → all_named names ≡ s.names → IsSlotCount (length names) slots → IsIndexSize v (scan_counts s) size → 1 ≤ size → addresses ≤ s.placed → HoldsRoom v units names addresses slots size
+room_held v s units names addresses slots size us ns counts is some few =
     let counted : IsSlotCount (length (all_named names)) slots = subst (λ n. IsSlotCount n slots) (sym (length-map names named)) counts in
-    let fits : HasRoomFor s addresses slots size = room s addresses slots size is some few (subst (λ (xs : List Named). IsSlotCount (length xs) slots) ns counted) in
+    let fits : HasRoomFor v s addresses slots size = room v s addresses slots size is some few (subst (λ (xs : List Named). IsSlotCount (length xs) slots) ns counted) in
     record {
       counts = counted;
       parts = omega (arith, fits.parts, ap vectors_len ns, ap names_len ns, ap (λ (xs : List CuBoundary). length xs) us);

@@ -48,13 +48,13 @@ chosen true false us p q = refl
 chosen true true us p q = absurd cc
 chosen false y us p q = absurd cc
 
-pub index_units_are : (b : List ℕ) (us : List CuBoundary) → is_known (u32_at b 0) ≡ true → header_len (u32_at b 0) ≤ length b → u32_at b 4 ≡ 28 → u32_at b 8 ≡ 28 + 16 * length us → AreUnits us → StandsAt b 28 (flat_map unit_bytes us) → index_units b ≡ us
+pub index_units_are : (b : List ℕ) (at : ℕ) (us : List CuBoundary) → is_known (u32_at b 0) ≡ true → header_len (u32_at b 0) ≤ length b → u32_at b 4 ≡ at → u32_at b 8 ≡ at + 16 * length us → AreUnits us → StandsAt b at (flat_map unit_bytes us) → index_units b ≡ us
 unfolding index_units
-index_units_are b us known long o1 o2 fit s =
+index_units_are b at us known long o1 o2 fit s =
     chosen (is_known (u32_at b 0)) (ltb (length b) (header_len (u32_at b 0))) (map unit_in (whole_records 16 (slice_range b (u32_at b 4) (u32_at b 8)))) known (le-ltb (length b) (header_len (u32_at b 0)) long)
     ∙ ap (λ n. map unit_in (whole_records 16 (slice_range b n (u32_at b 8)))) o1
-    ∙ ap (λ n. map unit_in (whole_records 16 (slice_range b 28 n))) o2
-    ∙ ap (λ t. map unit_in (whole_records 16 t)) (part_is b 28 (16 * length us) (flat_map unit_bytes us) (length-units us) s)
+    ∙ ap (λ n. map unit_in (whole_records 16 (slice_range b at n))) o2
+    ∙ ap (λ t. map unit_in (whole_records 16 t)) (part_is b at (16 * length us) (flat_map unit_bytes us) (length-units us) s)
     ∙ ap (λ n. map unit_in (records 16 n (flat_map unit_bytes us))) count
     ∙ units_in-records us fit where
       count : length (flat_map unit_bytes us) / 16 ≡ length us

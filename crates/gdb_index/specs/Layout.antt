@@ -6,7 +6,7 @@ use Rattle.gdb_index_format.specs.declared.unit.CuBoundary.{CuBoundary}
 use Rattle.gdb_index_format.specs.declared.placement.AddressEntry.{AddressEntry}
 use Rattle.gdb_index_format.specs.Slots.{IsSlotCount}
 use Rattle.gdb_index_format.specs.Named.{Named}
-use Rattle.gdb_index_format.specs.Version.{header_len, shortcut_len}
+use Rattle.gdb_index_format.specs.Version.{header_len, shortcut_fields, shortcut_len}
 use Rattle.gdb_index.specs.Scan.{Scan}
 use Rattle.gdb_index.specs.Table.{Slot, table_bytes}
 use Rattle.gdb_index.specs.Filled.{IsFilled}
@@ -44,15 +44,16 @@ shortcuts_offset version units addresses slots = hash_table_offset version units
 abbrev pub pool_offset : ℕ → ℕ → ℕ → ℕ → ℕ
 pool_offset version units addresses slots = shortcuts_offset version units addresses slots + shortcut_len version
 
--- the version and the offsets of the parts: the types CU list begins where the address area does, so it is empty
+-- the version and the offsets of the parts: CU list, types CU list, address area, symbol hash table, shortcut table in
+-- version 9, constant pool. The types CU list begins where the address area does, so it is empty.
 abbrev pub header_numbers : ℕ → ℕ → ℕ → ℕ → List ℕ
 header_numbers version units addresses slots =
     version ∷ header_len version ∷ addresses_offset version units ∷ addresses_offset version units ∷ hash_table_offset version units addresses
-    ∷ shortcuts_offset version units addresses slots ∷ pool_offset version units addresses slots ∷ []
+    ∷ (shortcut_fields version (shortcuts_offset version units addresses slots) ++ pool_offset version units addresses slots ∷ [])
 
 -- The bytes are the index of a scan with these addresses: header, CU list, no types CU list, address area,
--- the symbol hash table in which each name stands in the first slot of its probe that no earlier name holds, a shortcut
--- table of zeros, the CU vectors, the names, and zeros to the end.
+-- the symbol hash table in which each name stands in the first slot of its probe that no earlier name holds, in version
+-- 9 a shortcut table of zeros, the CU vectors, the names, and zeros to the end.
 pub record IsLayoutOf (version : ℕ) (s : Scan) (addresses : List AddressEntry) (b : List ℕ) : Type 0 where
   pub slots : ℕ
   pub counted : IsSlotCount (length s.names) slots

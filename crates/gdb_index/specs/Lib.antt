@@ -6,5 +6,6 @@ pub mod Filled
 pub mod Layout
 pub mod Answers
 pub mod Vector
+pub mod Parts
 pub mod Laws
 pub mod steps

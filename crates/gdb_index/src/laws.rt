@@ -1,11 +1,7 @@
 //! Laws over the definitions: an index has one layout, and what callers rely on follows from it. Each law is the
 //! contract of a function that does nothing.
 
-ghost use Rattle.std.specs.Prelude.{◌≡◌};
-ghost use Rattle.gdb_index_format.specs.Version.{index_version, header_len, shortcut_len};
 ghost use Rattle.gdb_index.specs.Laws.{HashIgnoresCase, SlotsExceedNames, IndexesAreOne, LayoutAnswers};
-
-use crate::version::{HEADER_LEN, INDEX_VERSION, SHORTCUTS_LEN};
 
 /// The hash of a name is the same for all names that differ in the case of ASCII letters alone.
 pub fn hash_ignores_case()
@@ -22,16 +18,9 @@ pub fn indexes_are_one()
     ensures { IndexesAreOne }
 {}
 
-/// The bytes of an index return the CU vector of each name, and Absent for every other byte string. The name of
+/// The bytes of an index of either version return the CU vector of each name, and Absent for every other byte string. The name of
 /// pool index i, from 1, is found within i probe steps, and an absent one ends within one step more than there are
 /// names, or without a step where there are none.
 pub fn layout_answers()
     ensures { LayoutAnswers }
-{}
-
-/// The version that is read and written, and the lengths that depend on it, are those of the definitions.
-pub fn version_numbers()
-    ensures version { INDEX_VERSION ≡ index_version }
-    ensures header { HEADER_LEN ≡ header_len index_version }
-    ensures shortcuts { SHORTCUTS_LEN ≡ shortcut_len index_version }
 {}

@@ -1,28 +1,33 @@
 //! Finds a name in the bytes of an index, by the probe of the format (GDB manual, "Index Section
 //! Format").
 
-ghost use Rattle.std.specs.Prelude.{◌≡◌, ℕ, ◌+◌, ◌*◌, ◌<◌, ◌≤◌, ◌^◌, ◌==◌, length, Some, Err, MatchResult};
+ghost use Rattle.std.specs.Prelude.{◌≡◌, ℕ, ◌+◌, ◌*◌, ◌<◌, ◌≤◌, ◌^◌, ◌==◌, nat_lt, length, Some, Err, MatchResult};
 ghost use Rattle.std.specs.List.{position};
 ghost use Rattle.std.specs.Option.{option_copied};
-ghost use Rattle.elf_format.specs.Bytes.{string_at};
+ghost use Rattle.elf_format.specs.Bytes.{u32_at, string_at};
 ghost use Rattle.gdb_index_format.specs.Probe.{index_fault, slot_count, vector_at, step_in, probe};
-ghost use Rattle.gdb_index.specs.steps.Lookup.{seen_step, ArePartsOf};
+ghost use Rattle.gdb_index_format.specs.Version as format;
+ghost use Rattle.gdb_index.specs.Parts.{ArePartsOf};
+ghost use Rattle.gdb_index.specs.steps.Lookup.{seen_step};
 
 use crate::hash::gdb_hash;
 use crate::steps::Steps;
 use crate::table::slot_at;
 use crate::vector::CuVector;
-use crate::version::{HEADER_LEN, INDEX_VERSION};
+use crate::version::{MIN_HEADER_LEN, header_len, is_known, pool_field};
 use elf_words::{first_zero, read_u32};
 use gdb_index_format::BadIndex;
 use std::sync::ledger::Ledger;
 
-/// The offsets of the parts of an index that a probe reads, and the slot count.
+/// The parts of an index that a probe reads.
 #[derive(Clone, Copy, Debug)]
-struct Parts {
-    table: usize,
-    slots: usize,
-    pool: usize,
+pub struct Parts {
+    /// The offset of the symbol hash table, in bytes.
+    pub table: usize,
+    /// The number of slots of the symbol hash table: 0, or a power of two.
+    pub slots: usize,
+    /// The offset of the constant pool, in bytes.
+    pub pool: usize,
 }
 
 /// What one probe step reads.
@@ -34,12 +39,24 @@ enum ProbeStep<'a> {
     Passes,
 }
 
+/// Reports whether bytes are too short for the header that their version has: 24 bytes in version 8, and 28 in any other.
+pub fn is_short(index: &[u8]) -> bool
+    ensures { result ≡ nat_lt (length index.now) (format.header_len (u32_at index.now 0)) }
+{
+    index.len() < MIN_HEADER_LEN || index.len() < header_len(read_u32(index, 0)) as usize
+}
+
+/// Returns the parts of an index that a probe reads. The error is `Version`, `Offsets` or `Slots`, the first that applies to
+/// the index as a whole.
+///
+/// Requires bytes that are not too short for their header, by `is_short`.
 #[tactic(auto, unfolding(gdb_index_format::specs::Probe::index_fault, gdb_index_format::specs::Probe::are_in_order, gdb_index_format::specs::Probe::is_table, gdb_index_format::specs::Probe::slot_count, gdb_index_format::specs::Probe::pool_at, gdb_index_format::specs::Probe::table_at))]
-fn parts_of(index: &[u8]) -> Result<Parts, BadIndex>
-    requires { 28 ≤ length index.now }
+pub fn parts_of(index: &[u8]) -> Result<Parts, BadIndex>
+    requires { format.header_len (u32_at index.now 0) ≤ length index.now }
     ensures { MatchResult result (ArePartsOf index.now) (λ fault. index_fault index.now ≡ Some fault) }
 {
-    if read_u32(index, 0) != INDEX_VERSION {
+    let version = read_u32(index, 0);
+    if !is_known(version) {
         return Err(BadIndex::Version);
     }
     let units = read_u32(index, 4) as usize;
@@ -47,8 +64,8 @@ fn parts_of(index: &[u8]) -> Result<Parts, BadIndex>
     let addresses = read_u32(index, 12) as usize;
     let table = read_u32(index, 16) as usize;
     let shortcuts = read_u32(index, 20) as usize;
-    let pool = read_u32(index, 24) as usize;
-    let in_order = HEADER_LEN as usize <= units
+    let pool = read_u32(index, pool_field(version)) as usize;
+    let in_order = header_len(version) as usize <= units
         && units <= types
         && types <= addresses
         && addresses <= table
@@ -65,9 +82,9 @@ fn parts_of(index: &[u8]) -> Result<Parts, BadIndex>
     Ok(Parts { table, slots, pool })
 }
 
-/// Returns the bytes from an offset up to the first zero byte.
+/// Returns the bytes from an offset up to the first zero byte; None where there is none.
 #[tactic(auto, using(std::proofs::lemmas::List::take_rest), unfolding(elf_format::specs::Bytes::string_at))]
-fn name_from(index: &[u8], at: usize) -> Option<&[u8]>
+pub fn name_from(index: &[u8], at: usize) -> Option<&[u8]>
     ensures { option_copied result ≡ string_at index.now at }
 {
     if index.len() < at {
@@ -78,9 +95,12 @@ fn name_from(index: &[u8], at: usize) -> Option<&[u8]>
     Some(&tail[..len])
 }
 
-/// Returns the CU vector at an offset.
+/// Returns the CU vector at an offset: a count, and so many elements. The error is `VectorOutside`, exactly where one of
+/// them is out of range.
+///
+/// Requires an offset below 2^33.
 #[tactic(auto, unfolding(gdb_index_format::specs::Probe::vector_at))]
-fn vector_from(index: &[u8], at: usize) -> Result<CuVector<'_>, BadIndex>
+pub fn vector_from(index: &[u8], at: usize) -> Result<CuVector<'_>, BadIndex>
     requires { at < 2 ^ 33 }
     ensures { MatchResult result
         (λ words. vector_at index.now at ≡ Ok (Some words))
@@ -120,7 +140,7 @@ fn probe_slot<'a>(index: &'a [u8], name: &[u8], parts: Parts, slot: usize) -> Pr
 }
 
 /// Returns the CU vector of a name, or None where the index does not hold the name. Names are compared byte by byte.
-/// Fewer than 28 bytes hold no name. Each slot that the probe reads is one step; there are at most as many steps as
+/// Bytes that are shorter than the header, 24 bytes in version 8 and 28 in any other, hold no name. Each slot that the probe reads is one step; there are at most as many steps as
 /// slots. The lookup allocates nothing.
 ///
 /// The error is the first of these that applies: `Version`, `Offsets` and `Slots` for the index as a whole;
@@ -136,7 +156,7 @@ pub fn lookup<'a, L: Ledger>(
     ensures counted { steps.new ≡ steps.old + (probe index.now name.now).steps }
     ensures few { (probe index.now name.now).steps ≤ slot_count index.now }
 {
-    if index.len() < HEADER_LEN as usize {
+    if is_short(index) {
         return Ok(None);
     }
     let parts = parts_of(index)?;

@@ -2,9 +2,11 @@
 
 ghost use Rattle.std.specs.Prelude.{◌≡◌, ◌<◌, ◌≤◌, ◌^◌, MatchResult};
 ghost use Rattle.gdb_index_format.specs.Slots.{IsSlotCount};
+ghost use Rattle.gdb_index_format.specs.Version.{version_number};
 ghost use Rattle.gdb_index.specs.Size.{IsIndexSize, IsCountable, IsTooLarge, AreSmall};
 
-use crate::version::{HEADER_LEN, INDEX_VERSION, SHORTCUTS_LEN};
+use crate::version::{header_len, number_of, shortcut_len};
+use gdb_index_format::IndexVersion;
 use thiserror::Error;
 
 /// The counts that the size of an index depends on.
@@ -39,31 +41,33 @@ fn slots_for(names: u128) -> u128
     (names * 4 / 3 + 1).next_power_of_two()
 }
 
-/// Returns the size in bytes of an index of these counts, 0 where there is no unit. Requires each count below 2^120.
-pub fn index_size(counts: &IndexCounts) -> u128
+/// Returns the size in bytes of an index of these counts in a version, 0 where there is no unit. Requires each count
+/// below 2^120.
+pub fn index_size(counts: &IndexCounts, version: IndexVersion) -> u128
     requires { AreSmall counts.now }
-    ensures { IsIndexSize INDEX_VERSION counts.now result }
+    ensures { IsIndexSize (version_number version) counts.now result }
 {
     let slots = slots_for(counts.names);
     if counts.units == 0 {
         return 0;
     }
-    u128::from(HEADER_LEN)
+    let version = number_of(version);
+    u128::from(header_len(version))
         + 16 * counts.units
         + 20 * counts.placed
         + 8 * slots
-        + u128::from(SHORTCUTS_LEN)
+        + u128::from(shortcut_len(version))
         + 4 * (counts.names + counts.words)
         + counts.name_bytes
 }
 
-/// Returns the size in bytes of an index of these counts, or `IndexTooLarge` with that size exactly where it is above
-/// 4,294,967,295. Requires each count below 2^120.
-pub fn checked_index_size(counts: &IndexCounts) -> Result<u32, IndexTooLarge>
+/// Returns the size in bytes of an index of these counts in a version, or `IndexTooLarge` with that size exactly where it
+/// is above 4,294,967,295. Requires each count below 2^120.
+pub fn checked_index_size(counts: &IndexCounts, version: IndexVersion) -> Result<u32, IndexTooLarge>
     requires { AreSmall counts.now }
-    ensures { MatchResult result (IsCountable INDEX_VERSION counts.now) (IsTooLarge INDEX_VERSION counts.now) }
+    ensures { MatchResult result (IsCountable (version_number version) counts.now) (IsTooLarge (version_number version) counts.now) }
 {
-    let size = index_size(counts);
+    let size = index_size(counts, version);
     if size > 0xffff_ffff {
         return Err(IndexTooLarge(size));
     }

@@ -23,8 +23,10 @@ fn put_slot(table: &mut [u8], slot: usize, name: u32, vector: u32)
     table[at + 4..at + 8].copy_from_slice(&vector.to_le_bytes());
 }
 
-/// Returns the slot that step `step` of a probe reads.
-pub(crate) fn slot_at(slots: usize, hash: u32, step: usize) -> usize
+/// Returns the slot that step `step` of a probe reads, from step 0 on, by the hash of the name.
+///
+/// Requires a step below the number of slots, of which there are fewer than 2^32.
+pub fn slot_at(slots: usize, hash: u32, step: usize) -> usize
     requires some { 0 < slots }
     requires table { slots < 2 ^ 32 }
     requires within { step < slots }

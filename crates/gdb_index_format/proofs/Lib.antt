@@ -7,3 +7,4 @@ pub mod UnitPlaces
 pub mod ObjectLists
 pub mod SmallLists
 pub mod NameLists
+pub mod Pooling

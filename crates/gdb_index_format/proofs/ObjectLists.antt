@@ -6,9 +6,13 @@ use Rattle.gdb_index_format.specs.declared.unit.CuBoundary.{CuBoundary}
 use Rattle.gdb_index_format.specs.Units.{IsUnitList}
 use Rattle.gdb_index_format.specs.Names.{NameSet, IsSetList}
 use Rattle.gdb_index_format.specs.Published.{Object, unit_lists}
-use Rattle.gdb_index_format.specs.Objects.{pubnames_sections, info_bytes, AreUnitsIn, AreSetsIn, AreSetsOfSections, AreSetsBeside, AreUnitsOf, IsObjectOf, AreObjectsOf, ObjectsAreOne}
+use Rattle.gdb_index_format.specs.Objects.{pubnames_sections, info_bytes, AreUnitsIn, AreSetsIn, AreSetsOfSections, AreSetsBeside, AreUnitsOf, IsObjectOf, AreObjectsOf, class_in, ClassIsTheNamed, ObjectsAreOne}
 use Rattle.gdb_index_format.proofs.UnitLists.{one_list}
 use Rattle.gdb_index_format.proofs.SetLists.{one_set_list}
+
+pub class_is_the_named : ClassIsTheNamed
+unfolding class_in
+class_is_the_named c file e = rw e refl
 
 same_bytes : (x y : List ℕ) → Some x ≡ Some y → x ≡ y
 same_bytes x y e = cc
@@ -36,27 +40,27 @@ one_object c file o p a b =
     let us : o.units ≡ p.units = one_units (info_bytes c file) o.units p.units a.units b.units in
     same_object o p us (one_sets_beside c file p.units o.sets p.sets (subst (λ (x : List CuBoundary). AreSetsBeside c file x o.sets) us a.sets) b.sets)
 
-one_list_of_objects : (c : Class) (files : List (List ℕ)) (os ps : List Object) → AreObjectsOf c files os → AreObjectsOf c files ps → os ≡ ps
-one_list_of_objects c [] [] [] p q = refl
-one_list_of_objects c [] [] (x ∷ xs) p q = absurd q
-one_list_of_objects c [] (o ∷ os) ps p q = absurd p
-one_list_of_objects c (file ∷ files) [] ps p q = absurd p
-one_list_of_objects c (file ∷ files) (o ∷ os) [] p q = absurd q
-one_list_of_objects c (file ∷ files) (o ∷ os) (x ∷ xs) p q = ap (λ y. y ∷ os) (one_object c file o x p.0 q.0) ∙ ap (λ ys. x ∷ ys) (one_list_of_objects c files os xs p.1 q.1)
+one_list_of_objects : (files : List (List ℕ)) (os ps : List Object) → AreObjectsOf files os → AreObjectsOf files ps → os ≡ ps
+one_list_of_objects [] [] [] p q = refl
+one_list_of_objects [] [] (x ∷ xs) p q = absurd q
+one_list_of_objects [] (o ∷ os) ps p q = absurd p
+one_list_of_objects (file ∷ files) [] ps p q = absurd p
+one_list_of_objects (file ∷ files) (o ∷ os) [] p q = absurd q
+one_list_of_objects (file ∷ files) (o ∷ os) (x ∷ xs) p q = ap (λ y. y ∷ os) (one_object (class_in file) file o x p.0 q.0) ∙ ap (λ ys. x ∷ ys) (one_list_of_objects files os xs p.1 q.1)
 
-pub one_unit_lists : (c : Class) (files : List (List ℕ)) (uss vss : List (List CuBoundary)) → AreUnitsOf c files uss → AreUnitsOf c files vss → uss ≡ vss
-one_unit_lists c [] [] [] p q = refl
-one_unit_lists c [] [] (x ∷ xs) p q = absurd q
-one_unit_lists c [] (us ∷ uss) vss p q = absurd p
-one_unit_lists c (file ∷ files) [] vss p q = absurd p
-one_unit_lists c (file ∷ files) (us ∷ uss) [] p q = absurd q
-one_unit_lists c (file ∷ files) (us ∷ uss) (vs ∷ vss) p q = ap (λ y. y ∷ uss) (one_units (info_bytes c file) us vs p.0 q.0) ∙ ap (λ ys. vs ∷ ys) (one_unit_lists c files uss vss p.1 q.1)
+pub one_unit_lists : (files : List (List ℕ)) (uss vss : List (List CuBoundary)) → AreUnitsOf files uss → AreUnitsOf files vss → uss ≡ vss
+one_unit_lists [] [] [] p q = refl
+one_unit_lists [] [] (x ∷ xs) p q = absurd q
+one_unit_lists [] (us ∷ uss) vss p q = absurd p
+one_unit_lists (file ∷ files) [] vss p q = absurd p
+one_unit_lists (file ∷ files) (us ∷ uss) [] p q = absurd q
+one_unit_lists (file ∷ files) (us ∷ uss) (vs ∷ vss) p q = ap (λ y. y ∷ uss) (one_units (info_bytes (class_in file) file) us vs p.0 q.0) ∙ ap (λ ys. vs ∷ ys) (one_unit_lists files uss vss p.1 q.1)
 
-pub units_of_objects : (c : Class) (files : List (List ℕ)) (os : List Object) → AreObjectsOf c files os → AreUnitsOf c files (unit_lists os)
-units_of_objects c [] [] h = tt
-units_of_objects c [] (o ∷ os) h = absurd h
-units_of_objects c (file ∷ files) [] h = absurd h
-units_of_objects c (file ∷ files) (o ∷ os) h = (h.0.units, units_of_objects c files os h.1)
+pub units_of_objects : (files : List (List ℕ)) (os : List Object) → AreObjectsOf files os → AreUnitsOf files (unit_lists os)
+units_of_objects [] [] h = tt
+units_of_objects [] (o ∷ os) h = absurd h
+units_of_objects (file ∷ files) [] h = absurd h
+units_of_objects (file ∷ files) (o ∷ os) h = (h.0.units, units_of_objects files os h.1)
 
 pub objects_are_one_lem : ObjectsAreOne
 objects_are_one_lem = record { one_object = one_object; one_list = one_list_of_objects; one_units = one_unit_lists; units = units_of_objects }

@@ -12,6 +12,15 @@ index_of_main =
     ++ bytes_of_number 4 1 ++ bytes_of_number 4 0x30000000
     ++ 0x6d ∷ 0x61 ∷ 0x69 ∷ 0x6e ∷ 0 ∷ []
 
+-- the same index in version 8
+abbrev pub index_of_main_8 : List ℕ
+index_of_main_8 =
+    bytes_of_number 4 8 ++ bytes_of_number 4 24 ++ bytes_of_number 4 40 ++ bytes_of_number 4 40 ++ bytes_of_number 4 40 ++ bytes_of_number 4 56
+    ++ bytes_of_number 8 0 ++ bytes_of_number 8 12
+    ++ bytes_of_number 4 0 ++ bytes_of_number 4 0 ++ bytes_of_number 4 8 ++ bytes_of_number 4 0
+    ++ bytes_of_number 4 1 ++ bytes_of_number 4 0x30000000
+    ++ 0x6d ∷ 0x61 ∷ 0x69 ∷ 0x6e ∷ 0 ∷ []
+
 -- an index of the same unit, which publishes `main` and `MAIN`: their hashes are equal
 abbrev pub index_of_two : List ℕ
 index_of_two =

@@ -3,7 +3,7 @@ use Rattle.std.specs.Prelude.{◌≡◌, ◌≢◌, ℕ, ◌+◌, ◌<◌, ◌�
 use Rattle.std.specs.List.{All, Contains}
 use Rattle.gdb_index_format.specs.declared.bad_index.BadIndex.{BadIndex}
 use Rattle.gdb_index_format.specs.declared.name_words.NameWords.{NameWords}
-use Rattle.gdb_index_format.specs.Published.{Pair, elements_in_order, IsVectorOf, first_names}
+use Rattle.gdb_index_format.specs.Published.{Pair, elements_in_order, IsVectorOf, pool_names}
 use Rattle.gdb_index_format.specs.Probe.{probe}
 
 -- a name with the elements of its CU vector
@@ -33,9 +33,9 @@ pub record AreNamesOf (ps : List Pair) (ns : List Named) : Type 0 where
   pub words : All (λ n. (n.words ≢ []) × IsVectorOf n.name ps n.words) ns
   pub all : All (λ p. (i : ℕ) × IsNamed ns p.name i) ps
 
--- the published names, each once and in the order of first publication, with their CU vectors
+-- the published names, each once and in pool order, with their CU vectors
 pub record ListsPublished (ps : List Pair) (ns : List Named) : Type 0 where
-  pub order : names_in ns ≡ first_names ps
+  pub order : names_in ns ≡ pool_names ps
   pub names : AreNamesOf ps ns
   pub distinct : AreDistinct ns
 

@@ -1,14 +1,23 @@
 -- The units and the sets of names that the bytes of an object hold.
-use Rattle.std.specs.Prelude.{◌≡◌, ℕ, Bool, false, ◌||◌, ◌&&◌, ◌==◌, List, [], ◌∷◌, ◌++◌, Option, Some, None, option_map, option_and_then, find, slice_get, codes}
+use Rattle.std.specs.Prelude.{◌≡◌, ℕ, Bool, false, ◌||◌, ◌&&◌, ◌==◌, List, [], ◌∷◌, ◌++◌, Option, Some, None, option_map, option_and_then, unwrap_or, find, slice_get, codes}
 use Rattle.std.specs.List.{filter, enumerate_from}
 use Rattle.elf_format.specs.Bytes.{get}
-use Rattle.elf_format.specs.Class.{Class, sh_flags}
+use Rattle.elf_format.specs.Class.{Class, class64, sh_flags}
+use Rattle.elf_format.specs.Fault.{class_of}
 use Rattle.elf_format.specs.Flags.{has_flag, shf_compressed}
 use Rattle.elf_format.specs.Section.{sections, section_bytes, section_name, section_of_name, is_name}
 use Rattle.gdb_index_format.specs.declared.unit.CuBoundary.{CuBoundary}
 use Rattle.gdb_index_format.specs.Units.{IsUnitList}
 use Rattle.gdb_index_format.specs.Names.{NameSet, IsSetList}
 use Rattle.gdb_index_format.specs.Published.{Object, unit_lists}
+
+-- the class of an object: the one that its bytes name. Bytes that name none are no object, and count as of ELFCLASS64
+unfoldable pub class_in : List ℕ → Class
+class_in file = unwrap_or (class_of file) class64
+
+-- bytes that name a class are of that class
+abbrev pub ClassIsTheNamed : Type 0
+ClassIsTheNamed = (c : Class) (file : List ℕ) → class_of file ≡ Some c → class_in file ≡ c
 
 -- the section that holds an object's units: the first of its name
 abbrev pub info_section : Class → List ℕ → Option ℕ
@@ -62,32 +71,32 @@ abbrev pub AreSetsBeside : Class → List ℕ → List CuBoundary → List NameS
 AreSetsBeside c file [] ss = ss ≡ []
 AreSetsBeside c file (u ∷ us) ss = IsSetsOf c file ss
 
--- the units of each of some objects
-abbrev pub AreUnitsOf : Class → List (List ℕ) → List (List CuBoundary) → Type 0
-AreUnitsOf c [] [] = Unit {0}
-AreUnitsOf c [] (us ∷ uss) = ⊥
-AreUnitsOf c (file ∷ files) [] = ⊥
-AreUnitsOf c (file ∷ files) (us ∷ uss) = IsUnitsOf c file us × AreUnitsOf c files uss
+-- the units of each of some objects, of either class
+abbrev pub AreUnitsOf : List (List ℕ) → List (List CuBoundary) → Type 0
+AreUnitsOf [] [] = Unit {0}
+AreUnitsOf [] (us ∷ uss) = ⊥
+AreUnitsOf (file ∷ files) [] = ⊥
+AreUnitsOf (file ∷ files) (us ∷ uss) = IsUnitsOf (class_in file) file us × AreUnitsOf files uss
 
 -- What an object holds.
 pub record IsObjectOf (c : Class) (file : List ℕ) (o : Object) : Type 0 where
   pub units : IsUnitsOf c file o.units
   pub sets : AreSetsBeside c file o.units o.sets
 
--- what each of some objects holds
-abbrev pub AreObjectsOf : Class → List (List ℕ) → List Object → Type 0
-AreObjectsOf c [] [] = Unit {0}
-AreObjectsOf c [] (o ∷ os) = ⊥
-AreObjectsOf c (file ∷ files) [] = ⊥
-AreObjectsOf c (file ∷ files) (o ∷ os) = IsObjectOf c file o × AreObjectsOf c files os
+-- what each of some objects holds, of either class
+abbrev pub AreObjectsOf : List (List ℕ) → List Object → Type 0
+AreObjectsOf [] [] = Unit {0}
+AreObjectsOf [] (o ∷ os) = ⊥
+AreObjectsOf (file ∷ files) [] = ⊥
+AreObjectsOf (file ∷ files) (o ∷ os) = IsObjectOf (class_in file) file o × AreObjectsOf files os
 
 -- An object holds one list of units and one list of sets, and so do several objects; their units are those of the
 -- objects.
 pub record ObjectsAreOne : Type 0 where
   pub one_object : (c : Class) (file : List ℕ) (o p : Object) → IsObjectOf c file o → IsObjectOf c file p → o ≡ p
-  pub one_list : (c : Class) (files : List (List ℕ)) (os ps : List Object) → AreObjectsOf c files os → AreObjectsOf c files ps → os ≡ ps
-  pub one_units : (c : Class) (files : List (List ℕ)) (uss vss : List (List CuBoundary)) → AreUnitsOf c files uss → AreUnitsOf c files vss → uss ≡ vss
-  pub units : (c : Class) (files : List (List ℕ)) (os : List Object) → AreObjectsOf c files os → AreUnitsOf c files (unit_lists os)
+  pub one_list : (files : List (List ℕ)) (os ps : List Object) → AreObjectsOf files os → AreObjectsOf files ps → os ≡ ps
+  pub one_units : (files : List (List ℕ)) (uss vss : List (List CuBoundary)) → AreUnitsOf files uss → AreUnitsOf files vss → uss ≡ vss
+  pub units : (files : List (List ℕ)) (os : List Object) → AreObjectsOf files os → AreUnitsOf files (unit_lists os)
 
 abbrev pub is_index : ℕ → Option ℕ → Bool
 is_index index None = false

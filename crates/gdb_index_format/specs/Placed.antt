@@ -6,6 +6,7 @@ use Rattle.elf_format.specs.Class.{Class, sh_flags}
 use Rattle.elf_format.specs.Flags.{has_flag, shf_alloc, shf_execinstr}
 use Rattle.elf_format.specs.Section.{sections}
 use Rattle.gdb_index_format.specs.declared.unit.CuBoundary.{CuBoundary}
+use Rattle.gdb_index_format.specs.Objects.{class_in}
 use Rattle.gdb_index_format.specs.declared.placement.Placement.{Placement}
 
 -- whether a section is there and holds code that is loaded
@@ -22,11 +23,11 @@ has_unit [] = false
 has_unit (u ∷ us) = true
 
 -- whether a placement counts, by its object's file and units
-abbrev pub counts_in : Class → Option (List ℕ) → Option (List CuBoundary) → Placement → Bool
-counts_in c None us p = false
-counts_in c (Some file) None p = false
-counts_in c (Some file) (Some us) p = is_counted c file p && has_unit us
+abbrev pub counts_in : Option (List ℕ) → Option (List CuBoundary) → Placement → Bool
+counts_in None us p = false
+counts_in (Some file) None p = false
+counts_in (Some file) (Some us) p = is_counted (class_in file) file p && has_unit us
 
--- the placements that count, of those of all objects, whose units are these
-abbrev pub placed : Class → List (List ℕ) → List (List CuBoundary) → List Placement → List Placement
-placed c files uss ps = filter (λ p. counts_in c (slice_get files p.object) (slice_get uss p.object) p) ps
+-- the placements that count, of those of all objects, of either class, whose units are these
+abbrev pub placed : List (List ℕ) → List (List CuBoundary) → List Placement → List Placement
+placed files uss ps = filter (λ p. counts_in (slice_get files p.object) (slice_get uss p.object) p) ps

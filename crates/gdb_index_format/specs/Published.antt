@@ -1,11 +1,11 @@
 -- The units of the objects, and the names that they publish with their CU vectors (GDB manual, "Index Section
 -- Format": the CU list, the CU vectors).
-use Rattle.std.specs.Prelude.{◌≡◌, ℕ, ◌+◌, ◌<◌, ◌==◌, not, List, [], ◌∷◌, ◌++◌, map, length, take, slice_index_or, Option, Some, None}
-use Rattle.std.specs.List.{position, flat_map, filter}
+use Rattle.std.specs.Prelude.{◌≡◌, ℕ, ◌+◌, ◌/◌, ◌^◌, ◌<◌, ◌==◌, not, List, [], ◌∷◌, ◌++◌, map, length, take, slice_index_or, Option, Some, None}
+use Rattle.std.specs.List.{position, flat_map, filter, range_with_len}
 use Rattle.std.specs.List.Sorted.{IsPermutation, IsNonDecreasing}
 use Rattle.std.specs.Str.{bytes_eq}
 use Rattle.gdb_index_format.specs.declared.unit.CuBoundary.{CuBoundary}
-use Rattle.gdb_index_format.specs.Hash.{element_of}
+use Rattle.gdb_index_format.specs.Hash.{name_hash, element_of}
 use Rattle.gdb_index_format.specs.Units.{total_length}
 use Rattle.gdb_index_format.specs.Names.{Entry, NameSet}
 
@@ -68,6 +68,31 @@ firsts (n ∷ ns) = n ∷ filter (λ m. not (bytes_eq m n)) (firsts ns)
 -- the published names, in the order of first publication
 abbrev pub first_names : List Pair → List (List ℕ)
 first_names ps = firsts (map (λ p. p.name) ps)
+
+-- the bucket of a name, from 0 to 31: the five highest bits of its hash
+unfoldable pub bucket : List ℕ → ℕ
+bucket name = name_hash name / 2 ^ 27
+
+-- the names of a bucket, in their order
+abbrev pub in_bucket : ℕ → List (List ℕ) → List (List ℕ)
+in_bucket b ns = filter (λ n. bucket n == b) ns
+
+-- names in ascending order of bucket, and within one bucket in their order
+abbrev pub by_bucket : List (List ℕ) → List (List ℕ)
+by_bucket ns = flat_map (λ b. in_bucket b ns) (range_with_len 0 32)
+
+-- the published names in pool order: in ascending order of bucket, and within one bucket in the order of first
+-- publication
+unfoldable pub pool_names : List Pair → List (List ℕ)
+pool_names ps = by_bucket (first_names ps)
+
+-- the constant pool has each published name once
+abbrev pub PoolHasEachName : Type 0
+PoolHasEachName = (ps : List Pair) → IsPermutation (first_names ps) (pool_names ps)
+
+-- every name has one of the 32 buckets
+abbrev pub NamesHaveBuckets : Type 0
+NamesHaveBuckets = (name : List ℕ) → bucket name < 32
 
 -- the elements of a name, in input order
 abbrev pub elements_in_order : List ℕ → List Pair → List ℕ

@@ -4,8 +4,8 @@ ghost use Rattle.gdb_index_format.specs.Slots.{EachSlotOnce};
 ghost use Rattle.gdb_index_format.specs.Units.{UnitsAreOne};
 ghost use Rattle.gdb_index_format.specs.Names.{SetsAreOne};
 ghost use Rattle.gdb_index_format.specs.Named.{PublishedNamesAreOne};
-ghost use Rattle.gdb_index_format.specs.Published.{UnitsOfAllRun, VectorsAreOne};
-ghost use Rattle.gdb_index_format.specs.Objects.{ObjectsAreOne};
+ghost use Rattle.gdb_index_format.specs.Published.{NamesHaveBuckets, PoolHasEachName, UnitsOfAllRun, VectorsAreOne};
+ghost use Rattle.gdb_index_format.specs.Objects.{ClassIsTheNamed, ObjectsAreOne};
 ghost use Rattle.gdb_index_format.specs.Size.{SizesAreOne};
 
 /// A probe steps at each slot, and at each only once.
@@ -28,6 +28,11 @@ pub fn words_are_one()
     ensures { VectorsAreOne }
 {}
 
+/// Bytes that name a class are of that class.
+pub fn class_is_the_named()
+    ensures { ClassIsTheNamed }
+{}
+
 /// Objects hold one list of units and one list of sets each.
 pub fn objects_are_one()
     ensures { ObjectsAreOne }
@@ -36,6 +41,16 @@ pub fn objects_are_one()
 /// Published pairs have one list of names with their CU vectors.
 pub fn published_names_are_one()
     ensures { PublishedNamesAreOne }
+{}
+
+/// Every name has one of 32 buckets.
+pub fn names_have_buckets()
+    ensures { NamesHaveBuckets }
+{}
+
+/// The constant pool has each published name once.
+pub fn pool_has_each_name()
+    ensures { PoolHasEachName }
 {}
 
 /// The units of all objects begin at running sums of their lengths.

@@ -3,9 +3,11 @@ pub mod Marking
 pub mod Pairing
 pub mod SectionSearch
 pub mod Windows
+pub mod Bucketing
 pub mod Causes
 pub mod Gathering
 pub mod Sounding
+pub mod Hashing
 pub mod OneCause
 pub mod OneScan
 pub mod Assigning

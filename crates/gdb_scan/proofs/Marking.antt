@@ -1,12 +1,12 @@
 -- What an object publishes, set by set.
-use Rattle.std.proofs.Common.{◌≡◌, ℕ, ◌+◌, ◌<◌, ◌≤◌, List, [], ◌∷◌, length, get_or, drop, map, refl, sym, ap, ◌∙◌, Bor, Vec, Global}
+use Rattle.std.proofs.Common.{◌≡◌, ℕ, ◌+◌, ◌<◌, ◌≤◌, List, ◌∷◌, length, get_or, drop, sym, ap, ◌∙◌}
 use Rattle.std.proofs.lemmas.List.{drop_more, drop_all}
 use Rattle.gdb_index_format.specs.declared.unit.CuBoundary.{CuBoundary}
 use Rattle.dwarf_sections.specs.declared.sets.PubnamesSet.{PubnamesSet}
 use Rattle.dwarf_sections.specs.Sets.{set_in, sets_in}
 use Rattle.gdb_scan.specs.declared.mark.Mark.{Mark}
-use Rattle.gdb_scan.specs.Groups.{add_all, shown}
-use Rattle.gdb_scan.specs.Marks.{marks_in, marks_of, groups_in}
+use Rattle.gdb_scan.specs.Groups.{add_all}
+use Rattle.gdb_scan.specs.Marks.{marks_in, marks_of}
 use Rattle.gdb_scan.proofs.Grouping.{Name, add_all-append}
 
 -- ---- set by set
@@ -21,9 +21,3 @@ set_step us sets i s gs hs all l is step left =
 
 pub sets_end : (us : List CuBoundary) (sets : List PubnamesSet) (i : ℕ) (gs : List (Name × List Mark)) → length sets ≤ i → gs ≡ add_all gs (marks_of us (sets_in (drop i sets)))
 sets_end us sets i gs le = sym (ap (λ xs. add_all gs (marks_of us (sets_in xs))) (drop_all i sets le))
-
--- ---- a map's entries, listed
-
-pub listed_shows : (es : List (Bor Name × Vec Mark Global)) → groups_in (map (λ e. record { name = e.0; marks = e.1 }) es) ≡ shown es
-listed_shows [] = refl
-listed_shows (e ∷ es) = ap (λ gs. (e.0.now, e.1.items) ∷ gs) (listed_shows es)

@@ -1,5 +1,5 @@
 -- What is refused is refused for one cause, and what is well formed for none.
-use Rattle.std.proofs.Common.{◌≡◌, ◌≢◌, ◌⊎◌, ℕ, ◌<◌, ◌^◌, List, [], ◌∷◌, ◌++◌, Option, Some, None, Result, Ok, Err, IfErr, refl, sym, ap, subst, ◌∙◌, inl, inr}
+use Rattle.std.proofs.Common.{◌≡◌, ◌≢◌, ◌⊎◌, ℕ, List, [], ◌∷◌, ◌++◌, Option, Some, None, Result, Ok, Err, IfErr, refl, sym, ap, subst, ◌∙◌, inl, inr}
 use Rattle.elf_format.specs.declared.error.ElfError.TheVariants.{SectionData}
 use Rattle.elf_format.specs.declared.index.SectionIndex.{SectionIndex}
 use Rattle.elf_format.specs.Class.{Class}

@@ -9,6 +9,7 @@ use Rattle.gdb_index_format.specs.Placed.{has_unit}
 use Rattle.gdb_index_format.proofs.ObjectLists.{objects_are_one_lem}
 use Rattle.gdb_scan.specs.declared.map_error.MapError.TheVariants.{Elf, NoMemory}
 use Rattle.gdb_scan.specs.declared.mark.Mark.{Mark}
+use Rattle.gdb_scan.specs.Buckets.{in_buckets}
 use Rattle.gdb_scan.specs.Groups.{groups}
 use Rattle.gdb_scan.specs.Laws.{HasOneScan, HasOneMapCause}
 use Rattle.gdb_scan.specs.Marks.{marks_of}
@@ -26,7 +27,7 @@ same_scan o n None None p q a b = refl
 same_scan o n None (Some t) p q a b = absurd (q.2 p)
 same_scan o n (Some s) None p q a b = absurd (p.2 q)
 same_scan o n (Some s) (Some t) (us, gs, some) (vs, hs, some') a b =
-    ap (λ x. Some x) (made s o.units (groups (marks_of o.units o.sets)) n us gs a ∙ sym (made t o.units (groups (marks_of o.units o.sets)) n vs hs b))
+    ap (λ x. Some x) (made s o.units (in_buckets (groups (marks_of o.units o.sets))) n us gs a ∙ sym (made t o.units (in_buckets (groups (marks_of o.units o.sets))) n vs hs b))
 
 same_object : (c : Class) (file : List ℕ) (object : ℕ) (ps : List Placement) (o p : Object) (n : ℕ) → o ≡ p → n ≡ cond (has_unit p.units) (placed_in c file object ps) 0 → n ≡ cond (has_unit o.units) (placed_in c file object ps) 0
 same_object c file object ps o p n same is = is ∙ sym (ap (λ (x : Object). cond (has_unit x.units) (placed_in c file object ps) 0) same)

@@ -5,6 +5,7 @@ use Rattle.std.specs.List.{All, AllByRecursion, AllPairs, filter}
 use Rattle.std.specs.Str.{bytes_eq}
 use Rattle.std.proofs.lemmas.Bool.{cases_Bool, eqb-true}
 use Rattle.std.proofs.lemmas.List.{length-take, length-drop}
+use Rattle.std.proofs.lemmas.List.Sorted.{All-permutation}
 use Rattle.std.proofs.lemmas.List.Quantifiers.{position-Some}
 use Rattle.std.proofs.lemmas.List.Sums.{sum_by-cons}
 use Rattle.elf_format.specs.Class.{Class}
@@ -16,11 +17,13 @@ use Rattle.gdb_index_format.specs.Units.{total_length}
 use Rattle.gdb_index_format.specs.Names.{Entry, NameSet}
 use Rattle.gdb_index_format.specs.Objects.{info_section, bytes_of_section, first_compressed, AreSetsBeside, IsSetsOf, IsUnitsOf}
 use Rattle.gdb_index_format.specs.Placed.{has_unit}
-use Rattle.gdb_index_format.specs.Published.{firsts}
+use Rattle.gdb_index_format.specs.Published.{firsts, bucket}
+use Rattle.gdb_index_format.proofs.Pooling.{names_have_buckets_lem, all_keys_in_order}
 use Rattle.gdb_index_format.proofs.UnitLists.{Tiles, Tiles-from_front, four_at_least}
 use Rattle.dwarf_sections.specs.Clean.{IsClean}
 use Rattle.dwarf_sections.specs.UnitSearch.{Ascend, unit_at}
 use Rattle.gdb_scan.specs.declared.mark.Mark.{Mark}
+use Rattle.gdb_scan.specs.Buckets.{in_buckets}
 use Rattle.gdb_scan.specs.Groups.{names_of, values_of, groups}
 use Rattle.gdb_scan.specs.Marks.{marks_at, marks_in, marks_of}
 use Rattle.gdb_scan.specs.Scan.{ObjectScan, IsObjectName, IsSoundScan}
@@ -197,9 +200,13 @@ own_few object limit low (p ∷ ps) ascend named from le = by (λ start after fi
 pub placed_few : (c : Class) (file : List ℕ) (object : ℕ) (ps : List Placement) → ArePlacements ps → NameSections c file object ps → placed_in c file object ps ≤ length (sections c file)
 placed_few c file object ps are named = omega (arith, filter_le (is_counted c file) (of_object object ps), own_few object (length (sections c file)) 0 ps are.ascend named (λ k d l same. omega arith) (omega arith))
 
+-- what holds of each group holds of them by bucket
+pub each_in_buckets : {X : Type 0} (P : Name × X → Type 0) (gs : List (Name × X)) → AllByRecursion P gs → AllByRecursion P (in_buckets gs)
+each_in_buckets {X} P gs h = each_from_All P (in_buckets gs) (All-permutation P gs (in_buckets gs) (all_keys_in_order (λ (g : Name × X). bucket g.0) 32 (λ g. names_have_buckets_lem g.0) gs) (All-from_each P gs h))
+
 -- ---- the scan
 
-pub sound_scan : (c : Class) (file : List ℕ) (us : List CuBoundary) (gs : List (Name × List Mark)) (placed : ℕ) → length file < 2 ^ 39 → IsUnitsOf c file us → 0 < length us → GathersNames c file us gs → 40 * length (sections c file) ≤ length file → placed ≤ length (sections c file) → IsSoundScan (record { units = us; names = gs; placed = placed })
+pub sound_scan : (c : Class) (file : List ℕ) (us : List CuBoundary) (gs : List (Name × List Mark)) (placed : ℕ) → length file < 2 ^ 39 → IsUnitsOf c file us → 0 < length us → GathersNames c file us gs → 40 * length (sections c file) ≤ length file → placed ≤ length (sections c file) → IsSoundScan (record { units = us; names = in_buckets gs; placed = placed })
 sound_scan c file us gs placed small units some gathered fit few =
     let tiles = Tiles-from_front units.bytes us units.list.front in
     record {
@@ -207,7 +214,7 @@ sound_scan c file us gs placed small units some gathered fit few =
       counted = counted_four units.bytes 0 us tiles;
       small = omega (arith, units.list.front.within, info_short c file units.bytes (info_section c file) units.there);
       placed = omega arith;
-      names = subst (AllByRecursion (IsObjectName (length us))) (sym (gathered_groups c file us gs gathered)) (groups_sound us gathered.sets gathered.clean);
+      names = each_in_buckets (IsObjectName (length us)) gs (subst (AllByRecursion (IsObjectName (length us))) (sym (gathered_groups c file us gs gathered)) (groups_sound us gathered.sets gathered.clean));
     }
 
 beside : (c : Class) (file : List ℕ) (us : List CuBoundary) (ss : List NameSet) → 0 < length us → IsSetsOf c file ss → AreSetsBeside c file us ss
@@ -221,12 +228,12 @@ with_unit (u ∷ us) n some = refl
 with_some : (us : List CuBoundary) → 0 < length us → us ≢ []
 with_some us some none = omega (arith, some, ap length none)
 
-pub scanned : (c : Class) (file : List ℕ) (object : ℕ) (ps : List Placement) (us : List CuBoundary) (gs : List (Name × List Mark)) (placed : ℕ) (scan : ObjectScan) → scan ≡ record { units = us; names = gs; placed = placed } → IsUnitsOf c file us → 0 < length us → GathersNames c file us gs → first_compressed c file ≡ None → placed ≡ placed_in c file object ps → 40 * length (sections c file) ≤ length file → ScansObject c file object ps (Some scan)
+pub scanned : (c : Class) (file : List ℕ) (object : ℕ) (ps : List Placement) (us : List CuBoundary) (gs : List (Name × List Mark)) (placed : ℕ) (scan : ObjectScan) → scan ≡ record { units = us; names = in_buckets gs; placed = placed } → IsUnitsOf c file us → 0 < length us → GathersNames c file us gs → first_compressed c file ≡ None → placed ≡ placed_in c file object ps → 40 * length (sections c file) ≤ length file → ScansObject c file object ps (Some scan)
 scanned c file object ps us gs placed scan is units some gathered plain count room = record {
   held = record { units = us; sets = gathered.sets };
   is_object = record { units = units; sets = beside c file us gathered.sets some gathered.list };
   plain = plain;
-  is_scan = (ap (λ (s : ObjectScan). s.units) is, ap (λ (s : ObjectScan). s.names) is ∙ gathered_groups c file us gs gathered, with_some us some);
+  is_scan = (ap (λ (s : ObjectScan). s.units) is, ap (λ (s : ObjectScan). s.names) is ∙ ap in_buckets (gathered_groups c file us gs gathered), with_some us some);
   placed = ap (λ (s : ObjectScan). s.placed) is ∙ count ∙ with_unit us (placed_in c file object ps) some;
   room = room;
 }

@@ -5,7 +5,7 @@ use Rattle.std.specs.List.Sorted.{IsPartitionPoint, IsNonDecreasingBy}
 use Rattle.std.proofs.lemmas.Bool.{cond-true, cond-false, cases_lt}
 use Rattle.std.proofs.lemmas.Bool.Decides.{nat_tests}
 use Rattle.gdb_index_format.specs.declared.placement.Placement.{Placement}
-use Rattle.gdb_scan.specs.PlacedIn.{ArePlacements, of_object}
+use Rattle.gdb_scan.specs.PlacedIn.{ArePlacements}
 
 module _ {X : Type 0} where
   pub window : (p : X → Bool) (xs : List X) (s e : ℕ) → s ≤ e → e ≤ length xs → ((k : ℕ) (d : X) → k < s → k < length xs → p (get_or xs k d) ≡ false) → ((k : ℕ) (d : X) → s ≤ k → k < e → p (get_or xs k d) ≡ true) → ((k : ℕ) (d : X) → e ≤ k → k < length xs → p (get_or xs k d) ≡ false) → take (e - s) (drop s xs) ≡ filter p xs
@@ -40,37 +40,36 @@ objects_do_not_fall ps are i j d le l = elim (cases_lt i j) [
   | inr ge ↦ let same : i ≡ j = omega arith in subst (λ k. (get_or ps i d).object ≤ (get_or ps k d).object) same (omega arith)
 ]
 
--- where the placements of an object begin and end
-pub record Bounds (ps : List Placement) (object start end : ℕ) : Type 0 where
-  pub low_bound : start ≤ length ps
-  pub high_bound : end ≤ length ps
-  pub low : (k : ℕ) (d : Placement) → k < start → (get_or ps k d).object < object
-  pub not_low : (k : ℕ) (d : Placement) → start ≤ k → k < length ps → object ≤ (get_or ps k d).object
-  pub not_high : (k : ℕ) (d : Placement) → k < end → (get_or ps k d).object ≤ object
-  pub high : (k : ℕ) (d : Placement) → end ≤ k → k < length ps → object < (get_or ps k d).object
+-- where the elements of a key begin and end
+module _ {X : Type 0} (key : X → ℕ) where
+  pub record Bounds (xs : List X) (k start end : ℕ) : Type 0 where
+    pub low_bound : start ≤ length xs
+    pub high_bound : end ≤ length xs
+    pub low : (i : ℕ) (d : X) → i < start → key (get_or xs i d) < k
+    pub not_low : (i : ℕ) (d : X) → start ≤ i → i < length xs → k ≤ key (get_or xs i d)
+    pub not_high : (i : ℕ) (d : X) → i < end → key (get_or xs i d) ≤ k
+    pub high : (i : ℕ) (d : X) → end ≤ i → i < length xs → k < key (get_or xs i d)
 
-pub bounds : (ps : List Placement) (object start end : ℕ) → start ≤ length ps → end ≤ length ps → IsPartitionPoint (λ p. ltb p.object object ≡ true) (λ p. ltb p.object object ≡ false) ps start → IsPartitionPoint (λ p. leb p.object object ≡ true) (λ p. leb p.object object ≡ false) ps end → Bounds ps object start end
-bounds ps object start end low_bound high_bound s e = record {
-  low_bound = low_bound;
-  high_bound = high_bound;
-  low = λ k d l. let t = s.0 k d (omega arith) l in grind (arith, nat_tests);
-  not_low = λ k d le l. let t = s.1 k d le l in grind (arith, nat_tests);
-  not_high = λ k d l. let t = e.0 k d (omega arith) l in grind (arith, nat_tests);
-  high = λ k d le l. let t = e.1 k d le l in grind (arith, nat_tests);
-}
+  pub bounds : (xs : List X) (k start end : ℕ) → start ≤ length xs → end ≤ length xs → IsPartitionPoint (λ x. ltb (key x) k ≡ true) (λ x. ltb (key x) k ≡ false) xs start → IsPartitionPoint (λ x. leb (key x) k ≡ true) (λ x. leb (key x) k ≡ false) xs end → Bounds xs k start end
+  bounds xs k start end low_bound high_bound s e = record {
+    low_bound = low_bound;
+    high_bound = high_bound;
+    low = λ i d l. let t = s.0 i d (omega arith) l in grind (arith, nat_tests);
+    not_low = λ i d le l. let t = s.1 i d le l in grind (arith, nat_tests);
+    not_high = λ i d l. let t = e.0 i d (omega arith) l in grind (arith, nat_tests);
+    high = λ i d le l. let t = e.1 i d le l in grind (arith, nat_tests);
+  }
 
-no_placement : Placement
-no_placement = record { object = 0; section = 0; address = 0; size = 0 }
+  pub start_le_end : (xs : List X) (k start end : ℕ) → Bounds xs k start end → start ≤ end
+  start_le_end [] k start end b = omega (arith, b.low_bound)
+  start_le_end (x ∷ xs) k start end b = elim (cases_lt end start) [
+    | inl less ↦ absurd (omega (arith, b.low end x less, b.high end x (omega arith) (omega (arith, b.low_bound))))
+    | inr ge ↦ ge
+  ]
 
-pub start_le_end : (ps : List Placement) (object start end : ℕ) → Bounds ps object start end → start ≤ end
-start_le_end ps object start end b = elim (cases_lt end start) [
-  | inl less ↦ absurd (omega (arith, b.low end no_placement less, b.high end no_placement (omega arith) (omega (arith, b.low_bound))))
-  | inr ge ↦ ge
-]
-
-pub window_of : (ps : List Placement) (object start end : ℕ) → Bounds ps object start end → take (end - start) (drop start ps) ≡ of_object object ps
-window_of ps object start end b =
-    window (λ p. eqb p.object object) ps start end (start_le_end ps object start end b) b.high_bound
-    (λ k d l m. let t = b.low k d l in grind (arith, nat_tests))
-    (λ k d l m. let t = b.not_low k d l (omega (arith, b.high_bound)) in let u = b.not_high k d m in grind (arith, nat_tests))
-    (λ k d l m. let t = b.high k d l m in grind (arith, nat_tests))
+  pub window_of : (xs : List X) (k start end : ℕ) → Bounds xs k start end → take (end - start) (drop start xs) ≡ filter (λ x. eqb (key x) k) xs
+  window_of xs k start end b =
+      window (λ x. eqb (key x) k) xs start end (start_le_end xs k start end b) b.high_bound
+      (λ i d l m. let t = b.low i d l in grind (arith, nat_tests))
+      (λ i d l m. let t = b.not_low i d l (omega (arith, b.high_bound)) in let u = b.not_high i d m in grind (arith, nat_tests))
+      (λ i d l m. let t = b.high i d l m in grind (arith, nat_tests))

@@ -1,4 +1,5 @@
 pub mod Groups
+pub mod Buckets
 pub mod Marks
 pub mod Scan
 pub mod PlacedIn

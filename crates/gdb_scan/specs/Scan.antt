@@ -1,15 +1,15 @@
 -- What one object holds for an index.
-use Rattle.std.specs.Prelude.{◌≡◌, ◌≢◌, ℕ, ◌+◌, ◌*◌, ◌^◌, ◌<◌, ◌≤◌, List, [], ◌∷◌, ◌++◌, length, Option, Some, None}
+use Rattle.std.specs.Prelude.{◌≡◌, ◌≢◌, ℕ, ◌*◌, ◌^◌, ◌<◌, ◌≤◌, List, [], length, Option, Some, None}
 use Rattle.std.specs.List.{All, AllByRecursion}
 use Rattle.gdb_index_format.specs.declared.unit.CuBoundary.{CuBoundary}
 use Rattle.gdb_index_format.specs.Units.{total_length}
 use Rattle.gdb_index_format.specs.Published.{Object}
 use Rattle.gdb_scan.specs.declared.mark.Mark.{Mark}
+use Rattle.gdb_scan.specs.Buckets.{in_buckets}
 use Rattle.gdb_scan.specs.Groups.{groups}
 use Rattle.gdb_scan.specs.Marks.{marks_of}
 
--- an object's units, its names in the order of first publication, each with its marks, and how many of its
--- sections are placed
+-- an object's units, its names by bucket, each with its marks, and how many of its sections are placed
 pub record ObjectScan : Type 0 where
   pub units : List CuBoundary
   pub names : List (List ℕ × List Mark)
@@ -46,7 +46,8 @@ placed_in_scan (Some s) = s.placed
 abbrev pub HasSoundNames : Option ObjectScan → Type 0
 HasSoundNames s = AllByRecursion (IsObjectName (length (units_in_scan s))) (names_in_scan s)
 
--- this is the scan of an object, the number of its placed sections aside: none exactly where the object has no unit
+-- this is the scan of an object, the number of its placed sections aside: none exactly where the object has no unit.
+-- Within one bucket the names stand in the order of first publication.
 abbrev pub IsScanOf : Object → Option ObjectScan → Type 0
 IsScanOf o None = o.units ≡ []
-IsScanOf o (Some s) = (s.units ≡ o.units) × (s.names ≡ groups (marks_of o.units o.sets)) × (o.units ≢ [])
+IsScanOf o (Some s) = (s.units ≡ o.units) × (s.names ≡ in_buckets (groups (marks_of o.units o.sets))) × (o.units ≢ [])

@@ -15,6 +15,8 @@ pub struct Mark {
 pub struct NameMarks<'a> {
     /// The name's bytes, without the zero byte that ends it in the file.
     pub name: &'a [u8],
+    /// The hash of the name. Its five highest bits are the bucket of the name.
+    pub hash: u32,
     /// Its publications, in the order of the file.
     pub marks: Vec<Mark>,
 }

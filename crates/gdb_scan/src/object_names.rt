@@ -1,12 +1,14 @@
-//! The names that one object publishes, in the order of first publication.
+//! The names that one object publishes, by bucket and within one bucket in the order of first publication.
 
 ghost use Rattle.std.specs.Prelude.{◌≡◌, ℕ, List, ◌∷◌, length, map, OnOk, IfOk};
 ghost use Rattle.std.specs.List.{All};
+ghost use Rattle.gdb_index_format.specs.Hash.{name_hash};
 ghost use Rattle.gdb_index_format.specs.Names.{NameSet, IsSetList};
 ghost use Rattle.dwarf_sections.specs.Clean.{IsClean};
 ghost use Rattle.dwarf_sections.specs.Entries.{IsBad};
 ghost use Rattle.dwarf_sections.specs.Sets.{set_in, sets_in};
 ghost use Rattle.dwarf_sections.specs.UnitSearch.{Ascend};
+ghost use Rattle.gdb_scan.specs.Buckets.{in_buckets, AreInBuckets};
 ghost use Rattle.gdb_scan.specs.Groups.{shown, add_all};
 ghost use Rattle.gdb_scan.specs.Marks.{marks_in, marks_of, groups_in};
 ghost use Rattle.gdb_scan.specs.steps.Published.{PublishesSection};
@@ -14,6 +16,7 @@ ghost use Rattle.gdb_scan.specs.steps.Published.{PublishesSection};
 use crate::mark::{Mark, NameMarks};
 use crate::names::publish;
 use dwarf_sections::{PubnamesSet, SetError, parse_pubnames_sets, unit_with_offset};
+use gdb_index::gdb_hash;
 use gdb_index_format::CuBoundary;
 use indexmap::IndexMap;
 use std::alloc::{AllocError, Global};
@@ -77,15 +80,32 @@ pub(crate) fn publish_section<'a>(
     Ok(())
 }
 
-/// Returns the entries of a map, in order.
+/// Returns the entries of a map, in order, each name with its hash.
+fn hashed<'a>(
+    alloc: Global,
+    names: IndexMap<&'a [u8], Vec<Mark>>,
+) -> Result<Vec<NameMarks<'a>>, AllocError>
+    ensures { IfOk result (λ list. list.items ≡ map (λ e. record { name = e.0; hash = name_hash e.0.now; marks = e.1 }) names.entry.entries) }
+{
+    names
+        .into_iter()
+        .map(|(name, marks)| NameMarks {
+            name,
+            hash: gdb_hash(name),
+            marks,
+        })
+        .collect(alloc)
+}
+
+/// Returns the entries of a map in ascending order of bucket, and within one bucket in their order.
 pub(crate) fn listed<'a>(
     alloc: Global,
     names: IndexMap<&'a [u8], Vec<Mark>>,
 ) -> Result<Vec<NameMarks<'a>>, AllocError>
-    ensures { IfOk result (λ list. list.items ≡ map (λ e. record { name = e.0; marks = e.1 }) names.entry.entries) }
+    ensures listed { IfOk result (λ list. groups_in list.items ≡ in_buckets (shown names.entry.entries)) }
+    ensures buckets { IfOk result (λ list. AreInBuckets list.items) }
 {
-    names
-        .into_iter()
-        .map(|(name, marks)| NameMarks { name, marks })
-        .collect(alloc)
+    let mut list = hashed(alloc, names)?;
+    list.sort_by_key(|named| named.hash >> 27)?;
+    Ok(list)
 }

@@ -2,14 +2,12 @@
 use Rattle.std.proofs.Common.{◌≡◌, ◌≢◌, ◌⊎◌, ℕ, List, Option, Some, None, refl, ap, sym, ◌∙◌, subst}
 use Rattle.std.specs.Prelude.{unwrap_or}
 use Rattle.elf_format.specs.declared.error.ElfError.{ElfError}
-use Rattle.elf_format.specs.Class.{Class}
 use Rattle.elf_view.specs.Parsed.{Parsed}
 use Rattle.gdb_index.specs.Scan.{Scan}
 use Rattle.gdb_index_format.specs.declared.placement.Placement.{Placement}
 use Rattle.gdb_index_format.specs.declared.unit.CuBoundary.{CuBoundary}
 use Rattle.gdb_index_format.specs.Objects.{AreUnitsOf}
 use Rattle.gdb_index_format.specs.Published.{unit_lists}
-use Rattle.gdb_index_format.specs.Version.{index_version}
 use Rattle.gdb_index_format.proofs.ObjectLists.{one_unit_lists, units_of_objects}
 use Rattle.gdb_scan.specs.declared.error.GdbError.{GdbError}
 use Rattle.gdb_scan.specs.declared.error.GdbError.TheVariants.{BadElf, CompressedSection, BadUnit, BadPubnames, TooManyUnits, IndexTooLarge, NoMemory}
@@ -59,26 +57,26 @@ no_address fault (IndexTooLarge n) none p = p
 no_address fault NoMemory none p = tt
 
 pub one_build_cause : HasOneBuildCause
-one_build_cause c parsed ps e f (in_size p) (in_size q) a b = one_size_cause index_version c (file_bytes parsed) ps e f p q a b
-one_build_cause c parsed ps e f (in_size p) (in_relocations index uss held q) a b = absurd (a (no_size_cause index_version c (file_bytes parsed) ps e index p))
-one_build_cause c parsed ps e f (in_relocations index uss held p) (in_size q) a b = absurd (b (no_size_cause index_version c (file_bytes parsed) ps f index q))
-one_build_cause c parsed ps e f (in_relocations index uss held p) (in_relocations other vss there q) a b =
-    let same : vss ≡ uss = one_unit_lists c (file_bytes parsed) vss uss there held in
-    one_address (first_relocation_fault c parsed uss) e f p (subst (λ (l : List (List CuBoundary)). IsAddressCause (first_relocation_fault c parsed l) f) same q) a b
+one_build_cause version parsed ps e f (in_size p) (in_size q) a b = one_size_cause version (file_bytes parsed) ps e f p q a b
+one_build_cause version parsed ps e f (in_size p) (in_relocations index uss held q) a b = absurd (a (no_size_cause version (file_bytes parsed) ps e index p))
+one_build_cause version parsed ps e f (in_relocations index uss held p) (in_size q) a b = absurd (b (no_size_cause version (file_bytes parsed) ps f index q))
+one_build_cause version parsed ps e f (in_relocations index uss held p) (in_relocations other vss there q) a b =
+    let same : vss ≡ uss = one_unit_lists (file_bytes parsed) vss uss there held in
+    one_address (first_relocation_fault parsed uss) e f p (subst (λ (l : List (List CuBoundary)). IsAddressCause (first_relocation_fault parsed l) f) same q) a b
 
-pub only_build_memory : (c : Class) (parsed : List Parsed) (ps : List Placement) (e : GdbError) → IsIndexable index_version c (file_bytes parsed) ps → AreRelocated c parsed → IsBuildCause c parsed ps e → IsOnlyMemory e
-only_build_memory c parsed ps e index relocated (in_size p) = only_size_memory index_version c (file_bytes parsed) ps e index p
-only_build_memory c parsed ps e index relocated (in_relocations other uss held p) = no_address (first_relocation_fault c parsed uss) e (relocated uss held) p
+pub only_build_memory : (version : ℕ) (parsed : List Parsed) (ps : List Placement) (e : GdbError) → IsIndexable version (file_bytes parsed) ps → AreRelocated parsed → IsBuildCause version parsed ps e → IsOnlyMemory e
+only_build_memory version parsed ps e index relocated (in_size p) = only_size_memory version (file_bytes parsed) ps e index p
+only_build_memory version parsed ps e index relocated (in_relocations other uss held p) = no_address (first_relocation_fault parsed uss) e (relocated uss held) p
 
 pub no_build_cause : RelocatedHasNoCause
-no_build_cause c parsed ps e index relocated cause = memory_is e (only_build_memory c parsed ps e index relocated cause)
+no_build_cause version parsed ps e index relocated cause = memory_is e (only_build_memory version parsed ps e index relocated cause)
 
-pub told_build : (c : Class) (parsed : List Parsed) (ps : List Placement) (f e : GdbError) → IsBuildCause c parsed ps f → IsBuildCause c parsed ps e → e ≢ NoMemory → (f ≡ e) ⊎ (f ≡ NoMemory)
-told_build c parsed ps f e found cause some = told (IsBuildCause c parsed ps) f e (one_build_cause c parsed ps) found cause some
+pub told_build : (version : ℕ) (parsed : List Parsed) (ps : List Placement) (f e : GdbError) → IsBuildCause version parsed ps f → IsBuildCause version parsed ps e → e ≢ NoMemory → (f ≡ e) ⊎ (f ≡ NoMemory)
+told_build version parsed ps f e found cause some = told (IsBuildCause version parsed ps) f e (one_build_cause version parsed ps) found cause some
 
 -- the cause of the address area is one of the index
-pub address_cause : (c : Class) (parsed : List Parsed) (ps : List Placement) (size : ℕ) (scan : Option Scan) (e : GdbError) → IsIndexable index_version c (file_bytes parsed) ps → SizesIndex index_version c (file_bytes parsed) ps size scan → ((uss : List (List CuBoundary)) → AreUnitsOf c (file_bytes parsed) uss → IsAddressCause (first_relocation_fault c parsed uss) e) → IsBuildCause c parsed ps e
-address_cause c parsed ps size scan e index sized cause =
+pub address_cause : (version : ℕ) (parsed : List Parsed) (ps : List Placement) (size : ℕ) (scan : Option Scan) (e : GdbError) → IsIndexable version (file_bytes parsed) ps → SizesIndex version (file_bytes parsed) ps size scan → ((uss : List (List CuBoundary)) → AreUnitsOf (file_bytes parsed) uss → IsAddressCause (first_relocation_fault parsed uss) e) → IsBuildCause version parsed ps e
+address_cause version parsed ps size scan e index sized cause =
     let uss = unit_lists sized.objects in
-    let held : AreUnitsOf c (file_bytes parsed) uss = units_of_objects c (file_bytes parsed) sized.objects sized.held in
+    let held : AreUnitsOf (file_bytes parsed) uss = units_of_objects (file_bytes parsed) sized.objects sized.held in
     in_relocations index uss held (cause uss held)

@@ -5,12 +5,13 @@ use Rattle.std.specs.Str.{bytes_eq}
 use Rattle.std.proofs.lemmas.Bool.{cases_Bool}
 use Rattle.std.proofs.lemmas.List.{length-map}
 use Rattle.std.proofs.lemmas.List.Sums.{sum_by-cons}
-use Rattle.std.proofs.lemmas.List.Sorted.{length_permutation}
+use Rattle.std.proofs.lemmas.List.Sorted.{length_permutation, sum_by-IsPermutation}
 use Rattle.gdb_index.specs.Scan.{word_count}
 use Rattle.gdb_index.specs.Pool.{names_len, name_len}
 use Rattle.gdb_index_format.specs.declared.unit.CuBoundary.{CuBoundary}
 use Rattle.gdb_index_format.specs.Named.{Named, ListsPublished}
-use Rattle.gdb_index_format.specs.Published.{Object, Pair, firsts, first_names, units_in_lists, unit_lists}
+use Rattle.gdb_index_format.specs.Published.{Object, Pair, firsts, first_names, pool_names, units_in_lists, unit_lists}
+use Rattle.gdb_index_format.proofs.Pooling.{pool_has_each_name_lem}
 use Rattle.gdb_scan.specs.Groups.{names_of, values_of}
 use Rattle.gdb_scan.specs.Scan.{ObjectScan}
 use Rattle.gdb_tables.specs.Scans.{unit_counts, units_in_scans, AreScansOf}
@@ -66,7 +67,9 @@ words_by_name ps (n ∷ ns) h =
 pub words_counted : (ps : List Pair) (ns : List Named) → ListsPublished ps ns → word_count ns ≡ length ps
 words_counted ps ns lists =
     words_by_name ps ns (λ k d l. let of = (lists.names.words k d l).1 in length_permutation _ _ of.same ∙ ap length (sym (words_are ps (get_or ns k d).name)))
-    ∙ ap (sum_by (λ m. length (values_of m (as_pairs ps)))) (lists.order ∙ ap firsts (sym (same_names ps)))
+    ∙ ap (sum_by (λ m. length (values_of m (as_pairs ps)))) lists.order
+    ∙ sum_by-IsPermutation (λ m. length (values_of m (as_pairs ps))) (first_names ps) (pool_names ps) (pool_has_each_name_lem ps)
+    ∙ ap (λ ns. sum_by (λ m. length (values_of m (as_pairs ps))) (firsts ns)) (sym (same_names ps))
     ∙ total_values (as_pairs ps)
     ∙ length-map ps as_pair
 
@@ -75,10 +78,10 @@ bytes_by_name [] = refl
 bytes_by_name (n ∷ ns) = omega (arith, sum_by-cons name_len n ns, sum_by-cons (λ (x : Name). length x + 1) n.name (map (λ (x : Named). x.name) ns), bytes_by_name ns)
 
 pub bytes_counted : (ps : List Pair) (ns : List Named) → ListsPublished ps ns → names_len ns ≡ sum_by (λ n. length n + 1) (first_names ps)
-bytes_counted ps ns lists = bytes_by_name ns ∙ ap (sum_by (λ (n : Name). length n + 1)) lists.order
+bytes_counted ps ns lists = bytes_by_name ns ∙ ap (sum_by (λ (n : Name). length n + 1)) lists.order ∙ sum_by-IsPermutation (λ (n : Name). length n + 1) (first_names ps) (pool_names ps) (pool_has_each_name_lem ps)
 
 pub names_counted : (ps : List Pair) (ns : List Named) → ListsPublished ps ns → length ns ≡ length (first_names ps)
-names_counted ps ns lists = sym (length-map ns (λ (n : Named). n.name)) ∙ ap length lists.order
+names_counted ps ns lists = sym (length-map ns (λ (n : Named). n.name)) ∙ ap length lists.order ∙ length_permutation (first_names ps) (pool_names ps) (pool_has_each_name_lem ps)
 
 -- ---- bounds
 

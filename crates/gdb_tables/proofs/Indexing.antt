@@ -12,7 +12,6 @@ use Rattle.std.proofs.lemmas.List.Elements.{Contains-get_or}
 use Rattle.std.proofs.lemmas.List.Sorted.{All-permutation, Contains-permutation}
 use Rattle.std.proofs.lemmas.Map.Keys.{IsDistinct-from_apart, IsDistinct-IsPermutation, apart_from_distinct}
 use Rattle.std.proofs.lemmas.Slice.Eq.{bytes_eq-Decides}
-use Rattle.elf_format.specs.Class.{Class}
 use Rattle.elf_view.specs.Parsed.{Parsed}
 use Rattle.gdb_index.specs.Layout.{IsLayoutOf}
 use Rattle.gdb_index.specs.Scan.{Scan}
@@ -31,7 +30,6 @@ use Rattle.gdb_tables.specs.Addresses.{addresses}
 use Rattle.gdb_tables.specs.Files.{file_bytes}
 use Rattle.gdb_tables.specs.Sized.{SizesIndex, IsScanOfAll}
 use Rattle.gdb_tables.specs.Index.{IsLaidOut, IsIndexOf}
-use Rattle.gdb_index_format.specs.Version.{index_version}
 
 pub answers_again : (ns : List Named) (b index : List ℕ) → b ≡ index → ((ps : List Pair) → AreNamesOf ps ns → AnswersAll b ps) → (ps : List Pair) → AreNamesOf ps ns → AnswersAll index ps
 answers_again ns b index same answers ps names = subst (λ (bytes : List ℕ). AnswersAll bytes ps) same (answers ps names)
@@ -88,26 +86,26 @@ distinct_again ns ms same distinct i j d below beyond equal =
       ]
     ]
 
-laid_out : (os : List Object) (count : ℕ) (entries : List AddressEntry) (scan : Scan) (units : List CuBoundary) (index : List ℕ) → units ≡ units_of_all os → 0 < length (units_of_all os) → IsScanOfAll os count scan → IsLayoutOf index_version scan entries index → IsLaidOut os count entries units index
-laid_out os count entries scan [] index are some of_all is = absurd (omega (arith, some, ap length are))
-laid_out os count entries scan (u ∷ us) index are some of_all is = (scan, of_all, is)
+laid_out : (version : ℕ) (os : List Object) (count : ℕ) (entries : List AddressEntry) (scan : Scan) (units : List CuBoundary) (index : List ℕ) → units ≡ units_of_all os → 0 < length (units_of_all os) → IsScanOfAll os count scan → IsLayoutOf version scan entries index → IsLaidOut version os count entries units index
+laid_out version os count entries scan [] index are some of_all is = absurd (omega (arith, some, ap length are))
+laid_out version os count entries scan (u ∷ us) index are some of_all is = (scan, of_all, is)
 
 -- the index of a scan of all objects
-pub indexed : (c : Class) (parsed : List Parsed) (placements : List Placement) (size : ℕ) (scan : Scan) (entries : List AddressEntry) (units : List CuBoundary) (names : List NameWords) (index : List ℕ)
-    → SizesIndex index_version c (file_bytes parsed) placements size (Some scan)
-    → ((uss : List (List CuBoundary)) → AreUnitsOf c (file_bytes parsed) uss → entries ≡ addresses c parsed uss placements)
+pub indexed : (version : ℕ) (parsed : List Parsed) (placements : List Placement) (size : ℕ) (scan : Scan) (entries : List AddressEntry) (units : List CuBoundary) (names : List NameWords) (index : List ℕ)
+    → SizesIndex version (file_bytes parsed) placements size (Some scan)
+    → ((uss : List (List CuBoundary)) → AreUnitsOf (file_bytes parsed) uss → entries ≡ addresses parsed uss placements)
     → length index ≡ size
-    → IsLayoutOf index_version scan entries index
+    → IsLayoutOf version scan entries index
     → index_units index ≡ scan.units
     → HasFewSteps index (names_in scan.names)
     → ((ps : List Pair) → AreNamesOf ps scan.names → AnswersAll index ps)
     → units ≡ scan.units
     → IsPermutation scan.names (all_named names)
     → IsSortedByKey (λ n. n.name.now) (slice_cmp nat_cmp) names
-    → IsIndexOf c parsed placements units names index
-indexed c parsed placements size scan entries units names index sized addressed len is listed steps answers are same ascending =
+    → IsIndexOf version parsed placements units names index
+indexed version parsed placements size scan entries units names index sized addressed len is listed steps answers are same ascending =
     let os = sized.objects in
-    let scanned : IsScanOfAll os (length (placed c (file_bytes parsed) (unit_lists os) placements)) scan = sized.scanned in
+    let scanned : IsScanOfAll os (length (placed (file_bytes parsed) (unit_lists os) placements)) scan = sized.scanned in
     record {
       objects = os;
       held = sized.held;
@@ -120,6 +118,6 @@ indexed c parsed placements size scan entries units names index sized addressed 
         distinct = distinct_again scan.names (all_named names) same scanned.names.distinct;
         ascending = ascending;
       };
-      size = subst (λ n. IsSize index_version (counts_of os (length (placed c (file_bytes parsed) (unit_lists os) placements))) n) (sym len) sized.size_is;
-      laid_out = subst (λ (list : List AddressEntry). IsLaidOut os (length (placed c (file_bytes parsed) (unit_lists os) placements)) list units index) (addressed (unit_lists os) (units_of_objects c (file_bytes parsed) os sized.held)) (laid_out os (length (placed c (file_bytes parsed) (unit_lists os) placements)) entries scan units index (are ∙ scanned.own.units) scanned.some scanned is);
+      size = subst (λ n. IsSize version (counts_of os (length (placed (file_bytes parsed) (unit_lists os) placements))) n) (sym len) sized.size_is;
+      laid_out = subst (λ (list : List AddressEntry). IsLaidOut version os (length (placed (file_bytes parsed) (unit_lists os) placements)) list units index) (addressed (unit_lists os) (units_of_objects (file_bytes parsed) os sized.held)) (laid_out version os (length (placed (file_bytes parsed) (unit_lists os) placements)) entries scan units index (are ∙ scanned.own.units) scanned.some scanned is);
     }

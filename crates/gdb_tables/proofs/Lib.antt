@@ -3,6 +3,7 @@ pub mod Picking
 pub mod Addressing
 pub mod Publishing
 pub mod Listing
+pub mod Pooled
 pub mod Merging
 pub mod Scanning
 pub mod OneScans

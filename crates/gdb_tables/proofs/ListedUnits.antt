@@ -8,7 +8,7 @@ use Rattle.elf_format.specs.Class.{Class}
 use Rattle.elf_view.specs.Parsed.{Parsed}
 use Rattle.dwarf_sections.specs.UnitSearch.{AreAdjacent}
 use Rattle.gdb_index_format.specs.declared.unit.CuBoundary.{CuBoundary}
-use Rattle.gdb_index_format.specs.Objects.{info_section, info_bytes, IsUnitsOf, AreUnitsOf}
+use Rattle.gdb_index_format.specs.Objects.{class_in, info_section, info_bytes, IsUnitsOf, AreUnitsOf}
 use Rattle.gdb_index_format.specs.Published.{end_to_end, units_in_lists, units_of_lists}
 use Rattle.gdb_index_format.specs.Units.{total_length}
 use Rattle.gdb_index_format.proofs.ObjectLists.{one_units}
@@ -102,18 +102,18 @@ total-append (x ∷ xs) ys = omega (arith, total-append xs ys, sum_by-cons (λ (
 own_small : (c : Class) (file : List ℕ) (us : List CuBoundary) → length file < 2 ^ 39 → IsUnitsOf c file us → total_length us < 2 ^ 39
 own_small c file us short units = omega (arith, info_short c file units.bytes (info_section c file) units.there, units.list.front.within, short)
 
-total_small : (c : Class) (files : List Parsed) (uss : List (List CuBoundary)) (i : ℕ) → AreUnitsOf c (file_bytes files) uss → All (λ f. length f.bytes < 2 ^ 39) files → total_length (units_in_lists (take i uss)) ≤ i * 2 ^ 39
-total_small c [] [] zero held small = omega arith
-total_small c [] [] (suc i) held small = omega arith
-total_small c [] (us ∷ uss) i held small = absurd held
-total_small c (f ∷ files) [] i held small = absurd held
-total_small c (f ∷ files) (us ∷ uss) zero held small = omega arith
-total_small c (f ∷ files) (us ∷ uss) (suc i) held small =
-    omega (arith, total-append us (units_in_lists (take i uss)), own_small c f.bytes us (small 0 f (omega arith)) held.0, total_small c files uss i held.1 (λ k d l. small (suc k) d (omega arith)))
+total_small : (files : List Parsed) (uss : List (List CuBoundary)) (i : ℕ) → AreUnitsOf (file_bytes files) uss → All (λ f. length f.bytes < 2 ^ 39) files → total_length (units_in_lists (take i uss)) ≤ i * 2 ^ 39
+total_small [] [] zero held small = omega arith
+total_small [] [] (suc i) held small = omega arith
+total_small [] (us ∷ uss) i held small = absurd held
+total_small (f ∷ files) [] i held small = absurd held
+total_small (f ∷ files) (us ∷ uss) zero held small = omega arith
+total_small (f ∷ files) (us ∷ uss) (suc i) held small =
+    omega (arith, total-append us (units_in_lists (take i uss)), own_small (class_in f.bytes) f.bytes us (small 0 f (omega arith)) held.0, total_small files uss i held.1 (λ k d l. small (suc k) d (omega arith)))
 
 -- the units of an object in the list of all
-pub listed_units : (c : Class) (files : List Parsed) (uss : List (List CuBoundary)) (all : List CuBoundary) (i first count : ℕ) (f : Parsed) (us : List CuBoundary) → AreUnitsOf c (file_bytes files) uss → All (λ f. length f.bytes < 2 ^ 39) files → i < length files → length files < 2 ^ 24 → slice_get uss i ≡ Some us → IsUnitsOf c f.bytes us → length f.bytes < 2 ^ 39 → all ≡ units_of_lists uss → first ≡ length (units_in_lists (take i uss)) → count ≡ length us → AreListedUnits c f.bytes (take count (drop first all))
-listed_units c files uss all i first count f us held small below few there units short is at counted = record {
+pub listed_units : (files : List Parsed) (uss : List (List CuBoundary)) (all : List CuBoundary) (i first count : ℕ) (f : Parsed) (us : List CuBoundary) → AreUnitsOf (file_bytes files) uss → All (λ f. length f.bytes < 2 ^ 39) files → i < length files → length files < 2 ^ 24 → slice_get uss i ≡ Some us → IsUnitsOf (class_in f.bytes) f.bytes us → length f.bytes < 2 ^ 39 → all ≡ units_of_lists uss → first ≡ length (units_in_lists (take i uss)) → count ≡ length us → AreListedUnits (class_in f.bytes) f.bytes (take count (drop first all))
+listed_units files uss all i first count f us held small below few there units short is at counted = record {
   own = us;
   base = total_length (units_in_lists (take i uss));
   held = units;
@@ -124,7 +124,7 @@ listed_units c files uss all i first count f us held small below few there units
       ∙ own_slice uss i us there
       ∙ ap (λ (n : ℕ). end_to_end n us) (plain (total_length (units_in_lists (take i uss))))
       ∙ tiles_moved units.bytes (total_length (units_in_lists (take i uss))) 0 us (Tiles-from_front units.bytes us units.list.front);
-  fit = omega (arith, total_small c files uss i held small, own_small c f.bytes us short units);
+  fit = omega (arith, total_small files uss i held small, own_small (class_in f.bytes) f.bytes us short units);
 } where
   plain : (n : ℕ) → n ≡ n + 0
   plain n = omega arith

@@ -1,9 +1,9 @@
 -- Loops that merge, step by step.
-use Rattle.std.proofs.Common.{◌≡◌, ◌≢◌, ℕ, zero, suc, ◌+◌, ◌^◌, ◌<◌, ◌≤◌, List, [], ◌∷◌, ◌++◌, length, get_or, drop, map, Option, refl, sym, ap, subst, ◌∙◌, arith, append_assoc}
+use Rattle.std.proofs.Common.{◌≡◌, ◌≢◌, ℕ, zero, suc, ◌+◌, ◌^◌, ◌<◌, ◌≤◌, List, [], ◌∷◌, ◌++◌, length, get_or, take, drop, map, Option, refl, sym, ap, subst, ◌∙◌, arith, append_assoc}
 use Rattle.std.specs.Prelude.{sum}
-use Rattle.std.specs.List.{All, AllByRecursion}
+use Rattle.std.specs.List.{All, AllByRecursion, flat_map, range_with_len}
 use Rattle.std.specs.List.Sorted.{IsPermutation, IsNonDecreasing}
-use Rattle.std.proofs.lemmas.List.{drop_more, length-append, append-nil, nil_from_length}
+use Rattle.std.proofs.lemmas.List.{drop_more, drop_all, take_more, length-append}
 use Rattle.gdb_index_format.specs.Hash.{element_of}
 use Rattle.gdb_tables.proofs.Listing.{lists_of_scans}
 use Rattle.std.proofs.lemmas.List.Sums.{sum_by-cons}
@@ -11,7 +11,10 @@ use Rattle.std.proofs.lemmas.List.Sorted.{All-permutation}
 use Rattle.gdb_index.specs.Scan.{IsIndexName, IsWellFormedScan, unit_number}
 use Rattle.gdb_index_format.specs.declared.unit.CuBoundary.{CuBoundary}
 use Rattle.gdb_index_format.specs.Named.{Named}
-use Rattle.gdb_index_format.specs.Published.{end_to_end, firsts}
+use Rattle.gdb_index_format.specs.Published.{end_to_end, firsts, by_bucket}
+use Rattle.gdb_index_format.proofs.Pooling.{by_bucket_permutes}
+use Rattle.gdb_scan.specs.Buckets.{of_bucket, in_buckets}
+use Rattle.gdb_tables.proofs.Pooled.{each_permuted, HaveSome-permuted, tabled_in_buckets, flat_more, sorted_append, groups_of_bucket, words_next}
 use Rattle.gdb_index_format.specs.Units.{total_length}
 use Rattle.gdb_scan.specs.declared.mark.Mark.{Mark}
 use Rattle.gdb_scan.specs.declared.mark.NameMarks.{NameMarks}
@@ -126,48 +129,54 @@ marks_fit first count (x ∷ ns) (suc i) n few sound l is = marks_fit first coun
 
 -- ---- all names
 
--- the names of some scans so far, where these scans, so many, are left
-pub record Merges (gs : List (Name × List ℕ)) (first : ℕ) (left : Scans) (count : ℕ) (ss : Scans) : Type 0 where
-  pub words : add_all gs (words_from first left) ≡ add_all [] (words_from 0 ss)
+-- the names of a bucket so far, where these scans are left
+pub record Gathering (b : ℕ) (gs : List (Name × List ℕ)) (first : ℕ) (left ss : Scans) : Type 0 where
+  pub words : add_all gs (of_bucket b (words_from first left)) ≡ add_all [] (of_bucket b (words_from 0 ss))
   pub units : first + unit_total left ≡ unit_total ss
-  pub counted : count ≡ length left
-  pub done : Scans
-  pub parts : done ++ left ≡ ss
-  pub sound : AllByRecursion HasSoundNames done
 
 sound_push : (ss : Scans) (s : Option ObjectScan) → AllByRecursion HasSoundNames ss → HasSoundNames s → AllByRecursion HasSoundNames (ss ++ s ∷ [])
 sound_push [] s before here = (here, tt)
 sound_push (x ∷ ss) s before here = (before.0, sound_push ss s before.1 here)
 
+-- the names of the scans so far are well formed
+pub sound_more : (ss : Scans) (i : ℕ) (s : Option ObjectScan) → i < length ss → s ≡ get_or ss i s → AllByRecursion HasSoundNames (take i ss) → HasSoundNames s → AllByRecursion HasSoundNames (take (i + 1) ss)
+sound_more ss i s l is before here = subst (AllByRecursion HasSoundNames) (ap (λ x. take i ss ++ x ∷ []) is ∙ sym (take_more ss i s l)) (sound_push (take i ss) s before here)
+
 -- no object has more units than are left
-pub merges_within : (gs : List (Name × List ℕ)) (first : ℕ) (left : Scans) (count : ℕ) (ss : Scans) (s : Option ObjectScan) (rest : Scans) → Merges gs first left count ss → left ≡ s ∷ rest → first + length (units_in_scan s) + unit_total rest ≡ unit_total ss
-merges_within gs first left count ss s rest g is = omega (arith, ap unit_total is, sum_next (length (units_in_scan s)) (unit_counts rest), g.units)
+pub gathering_within : (b : ℕ) (gs : List (Name × List ℕ)) (first : ℕ) (ss : Scans) (i : ℕ) (s : Option ObjectScan) → i < length ss → s ≡ get_or ss i s → Gathering b gs first (drop i ss) ss → first + length (units_in_scan s) + unit_total (drop (i + 1) ss) ≡ unit_total ss
+gathering_within b gs first ss i s l is g = omega (arith, ap unit_total (front ss i s l is), sum_next (length (units_in_scan s)) (unit_counts (drop (i + 1) ss)), g.units)
 
--- one more scan, taken from the front of those that are left
-pub merges_more : (gs hs : List (Name × List ℕ)) (first n : ℕ) (left rest : Scans) (count more : ℕ) (ss : Scans) (s : Option ObjectScan)
-    → Merges gs first left count ss → left ≡ s ∷ rest → more + 1 ≡ count → n ≡ length (units_in_scan s) → hs ≡ add_all gs (words_of_groups first (names_in_scan s)) → HasSoundNames s → Merges hs (first + n) rest more ss
-merges_more gs hs first n left rest count more ss s g is one units step here = record {
-  words =
-      ap (λ k. add_all hs (words_from (first + k) rest)) units
-      ∙ ap (λ xs. add_all xs (words_from (first + length (units_in_scan s)) rest)) step
-      ∙ sym (add_all-append gs (words_of_groups first (names_in_scan s)) (words_from (first + length (units_in_scan s)) rest))
-      ∙ sym (ap (λ xs. add_all gs (words_from first xs)) is)
-      ∙ g.words;
-  units = omega (arith, merges_within gs first left count ss s rest g is, units);
-  counted = omega (arith, one, g.counted, ap length is);
-  done = g.done ++ s ∷ [];
-  parts = append_assoc g.done (s ∷ []) rest ∙ sym (ap (λ xs. g.done ++ xs) is) ∙ g.parts;
-  sound = sound_push g.done s g.sound here;
-}
+-- one more scan
+pub gathering_more : (b : ℕ) (gs hs : List (Name × List ℕ)) (first n : ℕ) (ss : Scans) (i : ℕ) (s : Option ObjectScan) → i < length ss → s ≡ get_or ss i s
+    → Gathering b gs first (drop i ss) ss → n ≡ length (units_in_scan s) → hs ≡ add_all gs (words_of_groups first (of_bucket b (names_in_scan s))) → Gathering b hs (first + n) (drop (i + 1) ss) ss
+gathering_more b gs hs first n ss i s l is g units step =
+    let rest = drop (i + 1) ss in
+    record {
+      words =
+          ap (λ k. add_all hs (of_bucket b (words_from (first + k) rest))) units
+          ∙ ap (λ xs. add_all xs (of_bucket b (words_from (first + length (units_in_scan s)) rest))) step
+          ∙ sym (add_all-append gs (words_of_groups first (of_bucket b (names_in_scan s))) (of_bucket b (words_from (first + length (units_in_scan s)) rest)))
+          ∙ sym (ap (add_all gs) (words_next b first s rest))
+          ∙ sym (ap (λ xs. add_all gs (of_bucket b (words_from first xs))) (front ss i s l is))
+          ∙ g.words;
+      units = omega (arith, gathering_within b gs first ss i s l is g, units);
+    }
 
--- where none is left, these are the names of all, and those of each are well formed
-pub merges_sound : (gs : List (Name × List ℕ)) (first : ℕ) (left : Scans) (count : ℕ) (ss : Scans) → Merges gs first left count ss → count ≡ 0 → AllByRecursion HasSoundNames ss
-merges_sound gs first left count ss g none =
-    subst (AllByRecursion HasSoundNames) (sym (append-nil g.done) ∙ sym (ap (λ xs. g.done ++ xs) (nil_from_length left (sym g.counted ∙ none))) ∙ g.parts) g.sound
+-- where none is left, these are the names of the bucket
+pub gathered_all : (b : ℕ) (gs : List (Name × List ℕ)) (first : ℕ) (ss : Scans) (i : ℕ) → length ss ≤ i → Gathering b gs first (drop i ss) ss → gs ≡ groups (of_bucket b (words_from 0 ss))
+gathered_all b gs first ss i le g =
+    sym (ap (λ xs. add_all gs (of_bucket b (words_from first xs))) (drop_all i ss le)) ∙ g.words ∙ groups-add_all [] (of_bucket b (words_from 0 ss))
 
-pub merges_all : (gs : List (Name × List ℕ)) (first : ℕ) (left : Scans) (count : ℕ) (ss : Scans) → Merges gs first left count ss → count ≡ 0 → gs ≡ groups (words_from 0 ss)
-merges_all gs first left count ss g none =
-    sym (ap (λ xs. add_all gs (words_from first xs)) (nil_from_length left (sym g.counted ∙ none))) ∙ g.words ∙ groups-add_all [] (words_from 0 ss)
+-- ---- bucket by bucket
+
+-- the names of one more bucket
+pub bucket_more : (ps : List (Name × ℕ)) (b : ℕ) (ns ms : List Named) (gs : List (Name × List ℕ)) → AreSorted (flat_map (λ k. of_bucket k (groups ps)) (range_with_len 0 b)) ns → gs ≡ groups (of_bucket b ps) → AreSorted gs ms → AreSorted (flat_map (λ k. of_bucket k (groups ps)) (range_with_len 0 (b + 1))) (ns ++ ms)
+bucket_more ps b ns ms gs before is here =
+    subst (λ hs. AreSorted hs (ns ++ ms)) (sym (flat_more (λ k. of_bucket k (groups ps)) 0 b))
+    (sorted_append (flat_map (λ k. of_bucket k (groups ps)) (range_with_len 0 b)) (of_bucket (0 + b) (groups ps)) ns ms before
+    (subst (λ hs. AreSorted hs ms) (is ∙ groups_of_bucket b ps ∙ ap (λ k. of_bucket k (groups ps)) (plain b)) here)) where
+      plain : (n : ℕ) → n ≡ 0 + n
+      plain n = omega arith
 
 IsWord : ℕ → Name × ℕ → Type 0
 IsWord limit p = All (λ (c : ℕ). c ≢ 0) p.0 × (unit_number p.1 < limit)
@@ -221,12 +230,16 @@ index_names limit ps (m ∷ fs) (n ∷ ns) h clean some fit small = (
   index_names limit ps fs ns h.3 clean.1 some.1 fit small.1,
 )
 
-pub sound_merge : (ss : Scans) (us : List CuBoundary) (ns : List Named) (placed : ℕ) (counts : List ℕ) → us ≡ end_to_end 0 (units_in_scans ss) → counts ≡ unit_counts ss → unit_total ss ≤ 2 ^ 24 → AllByRecursion HasSoundNames ss → AreSorted (groups (words_from 0 ss)) ns → HaveSmallWords ns → IsWellFormedScan (record { units = us; names = ns; placed = placed; unit_counts = counts })
+pub sound_merge : (ss : Scans) (us : List CuBoundary) (ns : List Named) (placed : ℕ) (counts : List ℕ) → us ≡ end_to_end 0 (units_in_scans ss) → counts ≡ unit_counts ss → unit_total ss ≤ 2 ^ 24 → AllByRecursion HasSoundNames ss → AreSorted (in_buckets (groups (words_from 0 ss))) ns → HaveSmallWords ns → IsWellFormedScan (record { units = us; names = ns; placed = placed; unit_counts = counts })
 sound_merge ss us ns placed counts units listed few sound sorted small =
     let total : length us ≡ unit_total ss = ap length units ∙ unit_number_of ss in
     let ps = words_from 0 ss in
     let words = scans_words 0 (unit_total ss) ss sound (omega arith) few in
-    let names = index_names (unit_total ss) ps (firsts (names_of ps)) ns sorted (each-firsts (λ (n : Name). All (λ (c : ℕ). c ≢ 0) n) (names_of ps) (names_clean (unit_total ss) ps words)) (HaveSome-firsts ps) (numbers_fit (unit_total ss) ps words) (each_from_All (λ (n : Named). All (λ w. w < 2 ^ 32) n.words) ns small) in
+    let fs = firsts (names_of ps) in
+    let all = by_bucket_permutes fs in
+    let table : AreSorted (tabled (λ n. values_of n ps) (by_bucket fs)) ns = subst (λ gs. AreSorted gs ns) (tabled_in_buckets (λ n. values_of n ps) fs) sorted in
+    let clean = each_permuted (λ (n : Name). All (λ (c : ℕ). c ≢ 0) n) fs (by_bucket fs) all (each-firsts (λ (n : Name). All (λ (c : ℕ). c ≢ 0) n) (names_of ps) (names_clean (unit_total ss) ps words)) in
+    let names = index_names (unit_total ss) ps (by_bucket fs) ns table clean (HaveSome-permuted (λ n. values_of n ps) fs (by_bucket fs) all (HaveSome-firsts ps)) (numbers_fit (unit_total ss) ps words) (each_from_All (λ (n : Named). All (λ w. w < 2 ^ 32) n.words) ns small) in
     record {
       units = omega (arith, total);
       counted = ap sum listed ∙ sym total;

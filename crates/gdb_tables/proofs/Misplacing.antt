@@ -1,26 +1,46 @@
 -- Placements that may stand where they do, and the first that may not.
-use Rattle.std.proofs.Common.{◌≡◌, ℕ, zero, suc, ◌+◌, ◌^◌, ◌<◌, ◌⊎◌, Bool, true, false, cond, eqb, ltb, ◌&&◌, ◌||◌, List, [], ◌∷◌, get_or, Option, Some, None, refl, sym, ◌∙◌, arith, inl, inr}
-use Rattle.std.specs.Prelude.{slice_get, not}
+use Rattle.std.proofs.Common.{◌≡◌, ℕ, zero, suc, ◌+◌, ◌^◌, ◌<◌, ◌≤◌, ◌⊎◌, Bool, true, false, cond, eqb, ltb, ◌&&◌, ◌||◌, List, [], ◌∷◌, length, get_or, Option, Some, None, refl, ap, sym, ◌∙◌, arith, inl, inr}
+use Rattle.std.specs.Prelude.{slice_get, not, option_map, unwrap_or}
 use Rattle.std.specs.List.{All, AllPairs, position_from}
 use Rattle.std.proofs.lemmas.Bool.{ltb-true, lt-ltb, eqb-true, eq-eqb}
 use Rattle.std.proofs.lemmas.List.Kept.{AllPairs-cons}
-use Rattle.elf_format.specs.Class.{Class}
+use Rattle.elf_format.specs.Class.{Class, class64}
+use Rattle.elf_format.specs.Fault.{class_of}
+use Rattle.elf_format.specs.Section.{sections}
 use Rattle.elf_format.proofs.SearchLemmas.{position_is_from}
 use Rattle.gdb_index_format.specs.declared.placement.Placement.{Placement}
+use Rattle.gdb_index_format.specs.Objects.{class_in}
 use Rattle.gdb_scan.specs.PlacedIn.{IsBefore}
 use Rattle.gdb_tables.specs.Files.{IsThere, ArePlacedIn}
 use Rattle.gdb_tables.specs.Misplaced.{follows, is_there, is_well_placed, with_before, misplaced}
 
 -- the search among the placements from an index on, beside the one before
-abbrev pub misplaced_from : Class → List (List ℕ) → ℕ → Option Placement → List Placement → Option ℕ
-misplaced_from c files i before ps = position_from (λ w. not (is_well_placed c files w)) i (with_before before ps)
+abbrev pub misplaced_from : List (List ℕ) → ℕ → Option Placement → List Placement → Option ℕ
+misplaced_from files i before ps = position_from (λ w. not (is_well_placed files w)) i (with_before before ps)
 
-pub from_the_first : (c : Class) (files : List (List ℕ)) (ps : List Placement) → misplaced c files ps ≡ misplaced_from c files 0 None ps
-from_the_first c files ps = position_is_from (λ w. not (is_well_placed c files w)) (with_before None ps)
+pub from_the_first : (files : List (List ℕ)) (ps : List Placement) → misplaced files ps ≡ misplaced_from files 0 None ps
+from_the_first files ps = position_is_from (λ w. not (is_well_placed files w)) (with_before None ps)
 
 later : (test : Bool) (i : ℕ) (o : Option ℕ) → test ≡ true → cond (not test) (Some i) o ≡ o
 later true i o e = refl
 later false i o e = cc
+
+-- ---- the sections of a file
+
+module _ (file : List ℕ) (section n : ℕ) where
+  counted : (o : Option Class) → option_map (λ c. length (sections c file)) o ≡ Some n → length (sections (unwrap_or o class64) file) ≡ n
+  counted None e = absurd (cc e)
+  counted (Some c) e = cc
+
+  pub sections_there : option_map (λ c. length (sections c file)) (class_of file) ≡ Some n → ltb section n ≡ is_there (Some file) section
+  unfolding class_in
+  sections_there e = ap (λ m. ltb section m) (sym (counted (class_of file) e))
+
+pub no_file : (files : List (List ℕ)) (i section : ℕ) → length files ≤ i → false ≡ is_there (slice_get files i) section
+no_file [] zero section l = refl
+no_file [] (suc i) section l = refl
+no_file (f ∷ files) zero section l = absurd (omega arith)
+no_file (f ∷ files) (suc i) section l = no_file files i section (omega arith)
 
 -- ---- all of them
 
@@ -29,11 +49,11 @@ Follows None p = Unit {0}
 Follows (Some before) p = IsBefore before p
 
 -- these placements may follow this one
-record Right (c : Class) (files : List (List ℕ)) (before : Option Placement) (ps : List Placement) : Type 0 where
+record Right (files : List (List ℕ)) (before : Option Placement) (ps : List Placement) : Type 0 where
   pub ascend : AllPairs IsBefore ps
   pub behind : All (Follows before) ps
   pub fit : All (λ p. p.address + p.size < 2 ^ 64) ps
-  pub there : All (λ p. IsThere c (slice_get files p.object) p.section) ps
+  pub there : All (λ p. IsThere (slice_get files p.object) p.section) ps
 
 one_of : (x y z : Bool) → (x || y && z) ≡ true → (x ≡ true) ⊎ ((y ≡ true) × (z ≡ true))
 one_of true y z e = inl refl
@@ -65,13 +85,13 @@ follows_if (Some b) p h = elim h [
   either true y z e f = refl
   either false y z e f = cc
 
-there_is : (c : Class) (file : Option (List ℕ)) (section : ℕ) → is_there c file section ≡ true → IsThere c file section
-there_is c None section e = absurd (cc e)
-there_is c (Some file) section e = ltb-true _ _ e
+there_is : (file : Option (List ℕ)) (section : ℕ) → is_there file section ≡ true → IsThere file section
+there_is None section e = absurd (cc e)
+there_is (Some file) section e = ltb-true _ _ e
 
-is_there_if : (c : Class) (file : Option (List ℕ)) (section : ℕ) → IsThere c file section → is_there c file section ≡ true
-is_there_if c None section h = absurd h
-is_there_if c (Some file) section h = lt-ltb _ _ h
+is_there_if : (file : Option (List ℕ)) (section : ℕ) → IsThere file section → is_there file section ≡ true
+is_there_if None section h = absurd h
+is_there_if (Some file) section h = lt-ltb _ _ h
 
 follows_more : (before : Option Placement) (p q : Placement) → Follows before p → IsBefore p q → Follows before q
 follows_more None p q h l = tt
@@ -95,26 +115,26 @@ no_fault : (test : Bool) (i : ℕ) (o : Option ℕ) → cond (not test) (Some i)
 no_fault true i o e = (refl, e)
 no_fault false i o e = cc
 
-right : (c : Class) (files : List (List ℕ)) (i : ℕ) (before : Option Placement) (ps : List Placement) → misplaced_from c files i before ps ≡ None → Right c files before ps
-right c files i before [] e = record { ascend = λ a b d l m. absurd (omega arith); behind = λ k d l. absurd (omega arith); fit = λ k d l. absurd (omega arith); there = λ k d l. absurd (omega arith) }
-right c files i before (p ∷ ps) e =
-    let both = no_fault (is_well_placed c files (before, p)) i (misplaced_from c files (i + 1) (Some p) ps) e in
-    let parts = each_of (follows before p) (is_there c (slice_get files p.object) p.section) (ltb (p.address + p.size) (2 ^ 64)) both.0 in
+right : (files : List (List ℕ)) (i : ℕ) (before : Option Placement) (ps : List Placement) → misplaced_from files i before ps ≡ None → Right files before ps
+right files i before [] e = record { ascend = λ a b d l m. absurd (omega arith); behind = λ k d l. absurd (omega arith); fit = λ k d l. absurd (omega arith); there = λ k d l. absurd (omega arith) }
+right files i before (p ∷ ps) e =
+    let both = no_fault (is_well_placed files (before, p)) i (misplaced_from files (i + 1) (Some p) ps) e in
+    let parts = each_of (follows before p) (is_there (slice_get files p.object) p.section) (ltb (p.address + p.size) (2 ^ 64)) both.0 in
     let first = follows_is before p parts.0 in
-    let rest = right c files (i + 1) (Some p) ps both.1 in
+    let rest = right files (i + 1) (Some p) ps both.1 in
     record {
       ascend = AllPairs-cons IsBefore p ps rest.behind rest.ascend;
       behind = All-more (Follows before) p ps first (λ k d l. follows_more before p (get_or ps k d) first (rest.behind k d l));
       fit = All-more (λ (q : Placement). q.address + q.size < 2 ^ 64) p ps (ltb-true _ _ parts.2) rest.fit;
-      there = All-more (λ (q : Placement). IsThere c (slice_get files q.object) q.section) p ps (there_is c _ _ parts.1) rest.there;
+      there = All-more (λ (q : Placement). IsThere (slice_get files q.object) q.section) p ps (there_is _ _ parts.1) rest.there;
     }
 
-right_none : (c : Class) (files : List (List ℕ)) (i : ℕ) (before : Option Placement) (ps : List Placement) → Right c files before ps → misplaced_from c files i before ps ≡ None
-right_none c files i before [] h = refl
-right_none c files i before (p ∷ ps) h =
-    later (is_well_placed c files (before, p)) i (misplaced_from c files (i + 1) (Some p) ps)
-    (each (follows before p) (is_there c (slice_get files p.object) p.section) (ltb (p.address + p.size) (2 ^ 64)) (follows_if before p (h.behind 0 p (omega arith))) (is_there_if c _ _ (h.there 0 p (omega arith))) (lt-ltb _ _ (h.fit 0 p (omega arith))))
-    ∙ right_none c files (i + 1) (Some p) ps record {
+right_none : (files : List (List ℕ)) (i : ℕ) (before : Option Placement) (ps : List Placement) → Right files before ps → misplaced_from files i before ps ≡ None
+right_none files i before [] h = refl
+right_none files i before (p ∷ ps) h =
+    later (is_well_placed files (before, p)) i (misplaced_from files (i + 1) (Some p) ps)
+    (each (follows before p) (is_there (slice_get files p.object) p.section) (ltb (p.address + p.size) (2 ^ 64)) (follows_if before p (h.behind 0 p (omega arith))) (is_there_if _ _ (h.there 0 p (omega arith))) (lt-ltb _ _ (h.fit 0 p (omega arith))))
+    ∙ right_none files (i + 1) (Some p) ps record {
       ascend = λ a b d l m. h.ascend (suc a) (suc b) d (omega arith) (omega arith);
       behind = λ k d l. h.ascend 0 (suc k) d (omega arith) (omega arith);
       fit = λ k d l. h.fit (suc k) d (omega arith);
@@ -123,10 +143,10 @@ right_none c files i before (p ∷ ps) h =
       each : (x y z : Bool) → x ≡ true → y ≡ true → z ≡ true → (x && y && z) ≡ true
       each x y z e f g = cc
 
-pub none_misplaced : (c : Class) (files : List (List ℕ)) (ps : List Placement) → misplaced c files ps ≡ None → ArePlacedIn c files ps
-none_misplaced c files ps e =
-    let all = right c files 0 None ps (sym (from_the_first c files ps) ∙ e) in
+pub none_misplaced : (files : List (List ℕ)) (ps : List Placement) → misplaced files ps ≡ None → ArePlacedIn files ps
+none_misplaced files ps e =
+    let all = right files 0 None ps (sym (from_the_first files ps) ∙ e) in
     record { in_order = record { ascend = all.ascend; fit = all.fit }; there = all.there }
 
-pub placed_none : (c : Class) (files : List (List ℕ)) (ps : List Placement) → ArePlacedIn c files ps → misplaced c files ps ≡ None
-placed_none c files ps are = from_the_first c files ps ∙ right_none c files 0 None ps record { ascend = are.in_order.ascend; behind = λ k d l. tt; fit = are.in_order.fit; there = are.there }
+pub placed_none : (files : List (List ℕ)) (ps : List Placement) → ArePlacedIn files ps → misplaced files ps ≡ None
+placed_none files ps are = from_the_first files ps ∙ right_none files 0 None ps record { ascend = are.in_order.ascend; behind = λ k d l. tt; fit = are.in_order.fit; there = are.there }

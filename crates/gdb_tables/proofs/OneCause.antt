@@ -2,11 +2,10 @@
 use Rattle.std.proofs.Common.{◌≡◌, ◌≢◌, ◌⊎◌, ℕ, zero, suc, ◌<◌, ◌^◌, List, [], ◌∷◌, length, take, Option, Some, None, Result, Ok, Err, IfErr, refl, sym, ap, subst, ◌∙◌, arith, inl, inr}
 use Rattle.std.specs.Prelude.{slice_get}
 use Rattle.std.proofs.lemmas.Bool.{cases_lt}
-use Rattle.elf_format.specs.Class.{Class}
 use Rattle.gdb_index.specs.Scan.{Scan}
 use Rattle.gdb_index_format.specs.declared.placement.Placement.{Placement}
 use Rattle.gdb_index_format.specs.Published.{Object, units_of_all, unit_lists}
-use Rattle.gdb_index_format.specs.Objects.{first_compressed, IsObjectOf, AreObjectsOf}
+use Rattle.gdb_index_format.specs.Objects.{class_in, first_compressed, IsObjectOf, AreObjectsOf}
 use Rattle.gdb_index_format.specs.Placed.{placed}
 use Rattle.gdb_index_format.specs.Size.{IsSize, counts_of}
 use Rattle.gdb_index_format.proofs.ObjectLists.{objects_are_one_lem}
@@ -26,15 +25,15 @@ use Rattle.gdb_scan.proofs.OneCause.{memory_is, told, one_scan_cause}
 -- ---- several objects
 
 -- the object at an index of well-formed files is well formed
-sound_at : (c : Class) (files : List (List ℕ)) (os : List Object) (k : ℕ) (file : List ℕ) → AreObjectsOf c files os → ArePlain c files → slice_get files k ≡ Some file → (o : Object) × IsObjectOf c file o × (first_compressed c file ≡ None)
-sound_at c [] [] zero file held plain there = absurd cc
-sound_at c [] [] (suc k) file held plain there = absurd cc
-sound_at c [] (o ∷ os) k file held plain there = absurd held
-sound_at c (x ∷ files) [] k file held plain there = absurd held
-sound_at c (x ∷ files) (o ∷ os) zero file held plain there =
+sound_at : (files : List (List ℕ)) (os : List Object) (k : ℕ) (file : List ℕ) → AreObjectsOf files os → ArePlain files → slice_get files k ≡ Some file → (o : Object) × IsObjectOf (class_in file) file o × (first_compressed (class_in file) file ≡ None)
+sound_at [] [] zero file held plain there = absurd cc
+sound_at [] [] (suc k) file held plain there = absurd cc
+sound_at [] (o ∷ os) k file held plain there = absurd held
+sound_at (x ∷ files) [] k file held plain there = absurd held
+sound_at (x ∷ files) (o ∷ os) zero file held plain there =
     let is : x ≡ file = cc there in
-    (o, subst (λ (y : List ℕ). IsObjectOf c y o) is held.0, subst (λ (y : List ℕ). first_compressed c y ≡ None) is plain.0)
-sound_at c (x ∷ files) (o ∷ os) (suc k) file held plain there = sound_at c files os k file held.1 plain.1 there
+    (o, subst (λ (y : List ℕ). IsObjectOf (class_in y) y o) is held.0, subst (λ (y : List ℕ). first_compressed (class_in y) y ≡ None) is plain.0)
+sound_at (x ∷ files) (o ∷ os) (suc k) file held plain there = sound_at files os k file held.1 plain.1 there
 
 taken_at : (files : List (List ℕ)) (n k : ℕ) → k < n → slice_get (take n files) k ≡ slice_get files k
 taken_at files zero k below = absurd (omega (arith, below))
@@ -43,93 +42,93 @@ taken_at (x ∷ files) (suc n) zero below = refl
 taken_at (x ∷ files) (suc n) (suc k) below = taken_at files n k (omega (arith, below))
 
 -- an object before the first malformed one is well formed
-earlier : (c : Class) (files : List (List ℕ)) (e f : GdbError) (p : FirstBadObject c files e) (q : FirstBadObject c files f) → p.object < q.object → e ≡ NoMemory
-earlier c files e f p q below =
-    let at = sound_at c (take q.object files) q.before p.object p.file q.held q.plain (taken_at files q.object p.object below ∙ p.there) in
-    memory_is e (excluded c p.object p.file at.0 e at.1 at.2 p.cause)
+earlier : (files : List (List ℕ)) (e f : GdbError) (p : FirstBadObject files e) (q : FirstBadObject files f) → p.object < q.object → e ≡ NoMemory
+earlier files e f p q below =
+    let at = sound_at (take q.object files) q.before p.object p.file q.held q.plain (taken_at files q.object p.object below ∙ p.there) in
+    memory_is e (excluded (class_in p.file) p.object p.file at.0 e at.1 at.2 p.cause)
 
 same_file : (files : List (List ℕ)) (i j : ℕ) (x y : List ℕ) → i ≡ j → slice_get files i ≡ Some x → slice_get files j ≡ Some y → x ≡ y
 same_file files i j x y same p q = same_bytes x y (sym p ∙ ap (slice_get files) same ∙ q)
 
-same_object : (c : Class) (files : List (List ℕ)) (e f : GdbError) (p : FirstBadObject c files e) (q : FirstBadObject c files f) → p.object ≡ q.object → e ≢ NoMemory → f ≢ NoMemory → e ≡ f
-same_object c files e f p q same a b =
+same_object : (files : List (List ℕ)) (e f : GdbError) (p : FirstBadObject files e) (q : FirstBadObject files f) → p.object ≡ q.object → e ≢ NoMemory → f ≢ NoMemory → e ≡ f
+same_object files e f p q same a b =
     let file : p.file ≡ q.file = same_file files p.object q.object p.file q.file same p.there q.there in
-    let left : IsScanCause c q.object q.file e = subst (λ (i : ℕ). IsScanCause c i q.file e) same (subst (λ (x : List ℕ). IsScanCause c p.object x e) file p.cause) in
-    one_scan_cause c q.object q.file e f left q.cause a b
+    let left : IsScanCause (class_in q.file) q.object q.file e = subst (λ (i : ℕ). IsScanCause (class_in q.file) i q.file e) same (subst (λ (x : List ℕ). IsScanCause (class_in x) p.object x e) file p.cause) in
+    one_scan_cause (class_in q.file) q.object q.file e f left q.cause a b
 
-one_bad_object : (c : Class) (files : List (List ℕ)) (e f : GdbError) → FirstBadObject c files e → FirstBadObject c files f → e ≢ NoMemory → f ≢ NoMemory → e ≡ f
-one_bad_object c files e f p q a b = elim (cases_lt p.object q.object) [
-  | inl less ↦ absurd (a (earlier c files e f p q less))
+one_bad_object : (files : List (List ℕ)) (e f : GdbError) → FirstBadObject files e → FirstBadObject files f → e ≢ NoMemory → f ≢ NoMemory → e ≡ f
+one_bad_object files e f p q a b = elim (cases_lt p.object q.object) [
+  | inl less ↦ absurd (a (earlier files e f p q less))
   | inr ge ↦ elim (cases_lt q.object p.object) [
-    | inl less ↦ absurd (b (earlier c files f e q p less))
-    | inr le ↦ same_object c files e f p q (omega (arith, ge, le)) a b
+    | inl less ↦ absurd (b (earlier files f e q p less))
+    | inr le ↦ same_object files e f p q (omega (arith, ge, le)) a b
   ]
 ]
 
 pub one_files_cause : HasOneFilesCause
-one_files_cause c files e f (files_spec.in_object g p) (files_spec.in_object h q) a b = one_bad_object c files g h p q a b
-one_files_cause c files e f (files_spec.in_object g p) files_spec.no_memory a b = absurd (b refl)
-one_files_cause c files e f files_spec.no_memory q a b = absurd (a refl)
+one_files_cause files e f (files_spec.in_object g p) (files_spec.in_object h q) a b = one_bad_object files g h p q a b
+one_files_cause files e f (files_spec.in_object g p) files_spec.no_memory a b = absurd (b refl)
+one_files_cause files e f files_spec.no_memory q a b = absurd (a refl)
 
-pub told_files : (c : Class) (files : List (List ℕ)) (f e : GdbError) → IsFilesCause c files f → IsFilesCause c files e → e ≢ NoMemory → (f ≡ e) ⊎ (f ≡ NoMemory)
-told_files c files f e found cause some = told (IsFilesCause c files) f e (one_files_cause c files) found cause some
+pub told_files : (files : List (List ℕ)) (f e : GdbError) → IsFilesCause files f → IsFilesCause files e → e ≢ NoMemory → (f ≡ e) ⊎ (f ≡ NoMemory)
+told_files files f e found cause some = told (IsFilesCause files) f e (one_files_cause files) found cause some
 
 -- where all objects are well formed, none is malformed
-no_bad_object : (c : Class) (files : List (List ℕ)) (os : List Object) (e : GdbError) → AreObjectsOf c files os → ArePlain c files → FirstBadObject c files e → IsOnlyMemory e
-no_bad_object c files os e held plain p =
-    let at = sound_at c files os p.object p.file held plain p.there in
-    excluded c p.object p.file at.0 e at.1 at.2 p.cause
+no_bad_object : (files : List (List ℕ)) (os : List Object) (e : GdbError) → AreObjectsOf files os → ArePlain files → FirstBadObject files e → IsOnlyMemory e
+no_bad_object files os e held plain p =
+    let at = sound_at files os p.object p.file held plain p.there in
+    excluded (class_in p.file) p.object p.file at.0 e at.1 at.2 p.cause
 
-pub no_files_cause : (c : Class) (files : List (List ℕ)) (os : List Object) (e : GdbError) → AreObjectsOf c files os → ArePlain c files → IsFilesCause c files e → IsOnlyMemory e
-no_files_cause c files os e held plain (files_spec.in_object g p) = no_bad_object c files os g held plain p
-no_files_cause c files os e held plain files_spec.no_memory = tt
+pub no_files_cause : (files : List (List ℕ)) (os : List Object) (e : GdbError) → AreObjectsOf files os → ArePlain files → IsFilesCause files e → IsOnlyMemory e
+no_files_cause files os e held plain (files_spec.in_object g p) = no_bad_object files os g held plain p
+no_files_cause files os e held plain files_spec.no_memory = tt
 
-pub no_cause_in_scans : (c : Class) (files : List (List ℕ)) (ps : List Placement) (scans : List (Option ObjectScan)) (e : GdbError) → ScansObjects c files ps scans → IsFilesCause c files e → e ≡ NoMemory
-no_cause_in_scans c files ps scans e done cause = memory_is e (no_files_cause c files done.objects e done.held done.plain cause)
+pub no_cause_in_scans : (files : List (List ℕ)) (ps : List Placement) (scans : List (Option ObjectScan)) (e : GdbError) → ScansObjects files ps scans → IsFilesCause files e → e ≡ NoMemory
+no_cause_in_scans files ps scans e done cause = memory_is e (no_files_cause files done.objects e done.held done.plain cause)
 
-pub only_memory_in_files : {X : Type 0} (c : Class) (files : List (List ℕ)) (os : List Object) (r : Result X GdbError) → AreObjectsOf c files os → ArePlain c files → IfErr r (IsFilesCause c files) → IfErr r IsOnlyMemory
-only_memory_in_files c files os (Ok x) held plain cause = cause
-only_memory_in_files c files os (Err e) held plain cause = no_files_cause c files os e held plain cause
+pub only_memory_in_files : {X : Type 0} (files : List (List ℕ)) (os : List Object) (r : Result X GdbError) → AreObjectsOf files os → ArePlain files → IfErr r (IsFilesCause files) → IfErr r IsOnlyMemory
+only_memory_in_files files os (Ok x) held plain cause = cause
+only_memory_in_files files os (Err e) held plain cause = no_files_cause files os e held plain cause
 
 -- ---- the size
 
-same_objects : (c : Class) (files : List (List ℕ)) (os ps : List Object) → AreObjectsOf c files os → AreObjectsOf c files ps → os ≡ ps
-same_objects c files os ps p q = objects_are_one_lem.one_list c files os ps p q
+same_objects : (files : List (List ℕ)) (os ps : List Object) → AreObjectsOf files os → AreObjectsOf files ps → os ≡ ps
+same_objects files os ps p q = objects_are_one_lem.one_list files os ps p q
 
-same_size : (version : ℕ) (c : Class) (files : List (List ℕ)) (ps : List Placement) (os xs : List Object) (s t : ℕ) → AreObjectsOf c files os → AreObjectsOf c files xs → IsSize version (counts_of os (length (placed c files (unit_lists os) ps))) s → IsSize version (counts_of xs (length (placed c files (unit_lists xs) ps))) t → s ≡ t
-same_size version c files ps os xs s t p q left right =
-    sizes_are_one_lem.one_size version (counts_of xs (length (placed c files (unit_lists xs) ps))) s t (subst (λ (l : List Object). IsSize version (counts_of l (length (placed c files (unit_lists l) ps))) s) (same_objects c files os xs p q) left) right
+same_size : (version : ℕ) (files : List (List ℕ)) (ps : List Placement) (os xs : List Object) (s t : ℕ) → AreObjectsOf files os → AreObjectsOf files xs → IsSize version (counts_of os (length (placed files (unit_lists os) ps))) s → IsSize version (counts_of xs (length (placed files (unit_lists xs) ps))) t → s ≡ t
+same_size version files ps os xs s t p q left right =
+    sizes_are_one_lem.one_size version (counts_of xs (length (placed files (unit_lists xs) ps))) s t (subst (λ (l : List Object). IsSize version (counts_of l (length (placed files (unit_lists l) ps))) s) (same_objects files os xs p q) left) right
 
-same_number : (c : Class) (files : List (List ℕ)) (os xs : List Object) → AreObjectsOf c files os → AreObjectsOf c files xs → length (units_of_all os) ≡ length (units_of_all xs)
-same_number c files os xs p q = ap (λ (l : List Object). length (units_of_all l)) (same_objects c files os xs p q)
+same_number : (files : List (List ℕ)) (os xs : List Object) → AreObjectsOf files os → AreObjectsOf files xs → length (units_of_all os) ≡ length (units_of_all xs)
+same_number files os xs p q = ap (λ (l : List Object). length (units_of_all l)) (same_objects files os xs p q)
 
 pub one_size_cause : HasOneSizeCause
-one_size_cause version c files ps e f (in_object g p) (in_object h q) a b = one_bad_object c files g h p q a b
-one_size_cause version c files ps e f (in_object g p) (too_many xs held plain many) a b = absurd (a (memory_is g (no_bad_object c files xs g held plain p)))
-one_size_cause version c files ps e f (in_object g p) (too_large xs held plain few size is large) a b = absurd (a (memory_is g (no_bad_object c files xs g held plain p)))
-one_size_cause version c files ps e f (in_object g p) sized_spec.no_memory a b = absurd (b refl)
-one_size_cause version c files ps e f (too_many os held plain many) (in_object h q) a b = absurd (b (memory_is h (no_bad_object c files os h held plain q)))
-one_size_cause version c files ps e f (too_many os held plain many) (too_many xs held' plain' many') a b = ap (λ n. TooManyUnits n) (same_number c files os xs held held')
-one_size_cause version c files ps e f (too_many os held plain many) (too_large xs held' plain' few size is large) a b = absurd (omega (arith, many, few, same_number c files os xs held held'))
-one_size_cause version c files ps e f (too_many os held plain many) sized_spec.no_memory a b = absurd (b refl)
-one_size_cause version c files ps e f (too_large os held plain few size is large) (in_object h q) a b = absurd (b (memory_is h (no_bad_object c files os h held plain q)))
-one_size_cause version c files ps e f (too_large os held plain few size is large) (too_many xs held' plain' many) a b = absurd (omega (arith, many, few, same_number c files os xs held held'))
-one_size_cause version c files ps e f (too_large os held plain few size is large) (too_large xs held' plain' few' size' is' large') a b = ap (λ n. IndexTooLarge n) (same_size version c files ps os xs size size' held held' is is')
-one_size_cause version c files ps e f (too_large os held plain few size is large) sized_spec.no_memory a b = absurd (b refl)
-one_size_cause version c files ps e f sized_spec.no_memory q a b = absurd (a refl)
+one_size_cause version files ps e f (in_object g p) (in_object h q) a b = one_bad_object files g h p q a b
+one_size_cause version files ps e f (in_object g p) (too_many xs held plain many) a b = absurd (a (memory_is g (no_bad_object files xs g held plain p)))
+one_size_cause version files ps e f (in_object g p) (too_large xs held plain few size is large) a b = absurd (a (memory_is g (no_bad_object files xs g held plain p)))
+one_size_cause version files ps e f (in_object g p) sized_spec.no_memory a b = absurd (b refl)
+one_size_cause version files ps e f (too_many os held plain many) (in_object h q) a b = absurd (b (memory_is h (no_bad_object files os h held plain q)))
+one_size_cause version files ps e f (too_many os held plain many) (too_many xs held' plain' many') a b = ap (λ n. TooManyUnits n) (same_number files os xs held held')
+one_size_cause version files ps e f (too_many os held plain many) (too_large xs held' plain' few size is large) a b = absurd (omega (arith, many, few, same_number files os xs held held'))
+one_size_cause version files ps e f (too_many os held plain many) sized_spec.no_memory a b = absurd (b refl)
+one_size_cause version files ps e f (too_large os held plain few size is large) (in_object h q) a b = absurd (b (memory_is h (no_bad_object files os h held plain q)))
+one_size_cause version files ps e f (too_large os held plain few size is large) (too_many xs held' plain' many) a b = absurd (omega (arith, many, few, same_number files os xs held held'))
+one_size_cause version files ps e f (too_large os held plain few size is large) (too_large xs held' plain' few' size' is' large') a b = ap (λ n. IndexTooLarge n) (same_size version files ps os xs size size' held held' is is')
+one_size_cause version files ps e f (too_large os held plain few size is large) sized_spec.no_memory a b = absurd (b refl)
+one_size_cause version files ps e f sized_spec.no_memory q a b = absurd (a refl)
 
-pub only_size_memory : (version : ℕ) (c : Class) (files : List (List ℕ)) (ps : List Placement) (e : GdbError) → IsIndexable version c files ps → IsSizeCause version c files ps e → IsOnlyMemory e
-only_size_memory version c files ps e index (in_object g p) = no_bad_object c files index.objects g index.held index.plain p
-only_size_memory version c files ps e index (too_many xs held plain many) = absurd (omega (arith, many, index.few, same_number c files index.objects xs index.held held))
-only_size_memory version c files ps e index (too_large xs held plain few size is large) = absurd (omega (arith, large, index.fits, same_size version c files ps index.objects xs index.size size index.held held index.size_is is))
-only_size_memory version c files ps e index sized_spec.no_memory = tt
+pub only_size_memory : (version : ℕ) (files : List (List ℕ)) (ps : List Placement) (e : GdbError) → IsIndexable version files ps → IsSizeCause version files ps e → IsOnlyMemory e
+only_size_memory version files ps e index (in_object g p) = no_bad_object files index.objects g index.held index.plain p
+only_size_memory version files ps e index (too_many xs held plain many) = absurd (omega (arith, many, index.few, same_number files index.objects xs index.held held))
+only_size_memory version files ps e index (too_large xs held plain few size is large) = absurd (omega (arith, large, index.fits, same_size version files ps index.objects xs index.size size index.held held index.size_is is))
+only_size_memory version files ps e index sized_spec.no_memory = tt
 
 pub no_size_cause : IndexableHasNoCause
-no_size_cause version c files ps e index cause = memory_is e (only_size_memory version c files ps e index cause)
+no_size_cause version files ps e index cause = memory_is e (only_size_memory version files ps e index cause)
 
-pub told_size : (version : ℕ) (c : Class) (files : List (List ℕ)) (ps : List Placement) (f e : GdbError) → IsSizeCause version c files ps f → IsSizeCause version c files ps e → e ≢ NoMemory → (f ≡ e) ⊎ (f ≡ NoMemory)
-told_size version c files ps f e found cause some = told (IsSizeCause version c files ps) f e (one_size_cause version c files ps) found cause some
+pub told_size : (version : ℕ) (files : List (List ℕ)) (ps : List Placement) (f e : GdbError) → IsSizeCause version files ps f → IsSizeCause version files ps e → e ≢ NoMemory → (f ≡ e) ⊎ (f ≡ NoMemory)
+told_size version files ps f e found cause some = told (IsSizeCause version files ps) f e (one_size_cause version files ps) found cause some
 
 -- an index with a size that its offsets can count is one
-pub indexable : (version : ℕ) (c : Class) (files : List (List ℕ)) (ps : List Placement) (size : ℕ) (scan : Option Scan) → SizesIndex version c files ps size scan → size < 2 ^ 32 → IsIndexable version c files ps
-indexable version c files ps size scan sized fits = record { objects = sized.objects; held = sized.held; plain = sized.plain; few = sized.few; size = size; size_is = sized.size_is; fits = fits }
+pub indexable : (version : ℕ) (files : List (List ℕ)) (ps : List Placement) (size : ℕ) (scan : Option Scan) → SizesIndex version files ps size scan → size < 2 ^ 32 → IsIndexable version files ps
+indexable version files ps size scan sized fits = record { objects = sized.objects; held = sized.held; plain = sized.plain; few = sized.few; size = size; size_is = sized.size_is; fits = fits }

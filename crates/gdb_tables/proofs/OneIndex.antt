@@ -1,6 +1,5 @@
 -- Objects and placements have one index and one list of names.
 use Rattle.std.proofs.Common.{◌≡◌, ℕ, ◌<◌, List, [], ◌∷◌, length, Option, Some, None, refl, ap, sym, ◌∙◌, subst, arith}
-use Rattle.elf_format.specs.Class.{Class}
 use Rattle.elf_view.specs.Parsed.{Parsed}
 use Rattle.gdb_index.specs.Layout.{IsLayoutOf}
 use Rattle.gdb_index.specs.Scan.{Scan}
@@ -11,7 +10,7 @@ use Rattle.gdb_index_format.specs.declared.placement.Placement.{Placement}
 use Rattle.gdb_index_format.specs.declared.unit.CuBoundary.{CuBoundary}
 use Rattle.gdb_index_format.specs.Named.{Named, all_named, HasFewSteps}
 use Rattle.gdb_index_format.specs.Placed.{placed}
-use Rattle.gdb_index_format.specs.Published.{Object, published, first_names, units_of_all, unit_lists}
+use Rattle.gdb_index_format.specs.Published.{Object, published, pool_names, units_of_all, unit_lists}
 use Rattle.gdb_index_format.specs.Size.{IsSize, counts_of}
 use Rattle.gdb_index_format.proofs.ObjectLists.{objects_are_one_lem}
 use Rattle.gdb_index_format.proofs.Sizing.{sizes_are_one_lem}
@@ -21,7 +20,6 @@ use Rattle.gdb_tables.specs.Laws.{HasOneMerge, HasOneSize, IndexHasFewSteps}
 use Rattle.gdb_tables.specs.Scans.{published_in_scans}
 use Rattle.gdb_tables.specs.Sized.{IsScanOfAll, IsScanOrNone}
 use Rattle.gdb_tables.specs.Index.{IsLaidOut, IsIndexOf, ListsNames}
-use Rattle.gdb_index_format.specs.Version.{index_version}
 use Rattle.gdb_index_format.proofs.NameLists.{same_names, published_names_are_one_lem}
 use Rattle.gdb_tables.proofs.NamesInOrder.{one_list_of_names}
 
@@ -41,20 +39,20 @@ same_scan os count s t left right =
     (left.own.placed ∙ sym right.own.placed)
     (left.own.counts ∙ sym right.own.counts)
 
-one_laid : (os : List Object) (count : ℕ) (entries : List AddressEntry) (us vs : List CuBoundary) (b d : List ℕ) → us ≡ vs → length b ≡ length d → IsLaidOut os count entries us b → IsLaidOut os count entries vs d → b ≡ d
-one_laid os count entries [] [] b d same len left right = left ∙ sym right
-one_laid os count entries [] (v ∷ vs) b d same len left right = cc
-one_laid os count entries (u ∷ us) [] b d same len left right = cc
-one_laid os count entries (u ∷ us) (v ∷ vs) b d same len left right =
-    indexes_are_one_lem index_version left.0 entries b d left.2 (subst (λ (s : Scan). IsLayoutOf index_version s entries d) (same_scan os count right.0 left.0 right.1 left.1) right.2) len
+one_laid : (version : ℕ) (os : List Object) (count : ℕ) (entries : List AddressEntry) (us vs : List CuBoundary) (b d : List ℕ) → us ≡ vs → length b ≡ length d → IsLaidOut version os count entries us b → IsLaidOut version os count entries vs d → b ≡ d
+one_laid version os count entries [] [] b d same len left right = left ∙ sym right
+one_laid version os count entries [] (v ∷ vs) b d same len left right = cc
+one_laid version os count entries (u ∷ us) [] b d same len left right = cc
+one_laid version os count entries (u ∷ us) (v ∷ vs) b d same len left right =
+    indexes_are_one_lem version left.0 entries b d left.2 (subst (λ (s : Scan). IsLayoutOf version s entries d) (same_scan os count right.0 left.0 right.1 left.1) right.2) len
 
-pub one_index : (c : Class) (parsed : List Parsed) (placements : List Placement) (us vs : List CuBoundary) (ns ms : List NameWords) (b d : List ℕ) → IsIndexOf c parsed placements us ns b → IsIndexOf c parsed placements vs ms d → (us ≡ vs) × (all_named ns ≡ all_named ms) × (b ≡ d)
-one_index c parsed placements us vs ns ms b d left right =
+pub one_index : (version : ℕ) (parsed : List Parsed) (placements : List Placement) (us vs : List CuBoundary) (ns ms : List NameWords) (b d : List ℕ) → IsIndexOf version parsed placements us ns b → IsIndexOf version parsed placements vs ms d → (us ≡ vs) × (all_named ns ≡ all_named ms) × (b ≡ d)
+one_index version parsed placements us vs ns ms b d left right =
     let os = left.objects in
-    let same : right.objects ≡ os = objects_are_one_lem.one_list c (file_bytes parsed) right.objects os right.held left.held in
-    let count : List Object → ℕ = λ l. length (placed c (file_bytes parsed) (unit_lists l) placements) in
-    let size = subst (λ (l : List Object). IsSize index_version (counts_of l (count l)) (length d)) same right.size in
-    let laid = subst (λ (l : List Object). IsLaidOut l (count l) (addresses c parsed (unit_lists l) placements) vs d) same right.laid_out in
+    let same : right.objects ≡ os = objects_are_one_lem.one_list (file_bytes parsed) right.objects os right.held left.held in
+    let count : List Object → ℕ = λ l. length (placed (file_bytes parsed) (unit_lists l) placements) in
+    let size = subst (λ (l : List Object). IsSize version (counts_of l (count l)) (length d)) same right.size in
+    let laid = subst (λ (l : List Object). IsLaidOut version l (count l) (addresses parsed (unit_lists l) placements) vs d) same right.laid_out in
     let listed = left.names_are in
     let also = subst (λ (l : List Object). ListsNames (published l) ms) same right.names_are in
     let names : all_named ns ≡ all_named ms =
@@ -62,12 +60,12 @@ one_index c parsed placements us vs ns ms b d left right =
     (one_list_of_names (published os) ns ms listed.names also.names listed.distinct also.distinct listed.ascending also.ascending)
     listed.names.words also.names.words in
     let units : us ≡ vs = left.units_are ∙ sym (ap (λ (l : List Object). units_of_all l) same) ∙ sym right.units_are in
-    (units, names, one_laid os (count os) (addresses c parsed (unit_lists os) placements) us vs b d units (sizes_are_one_lem.one_size index_version (counts_of os (count os)) (length b) (length d) left.size size) left.laid_out laid)
+    (units, names, one_laid version os (count os) (addresses parsed (unit_lists os) placements) us vs b d units (sizes_are_one_lem.one_size version (counts_of os (count os)) (length b) (length d) left.size size) left.laid_out laid)
 
 pub few_steps : IndexHasFewSteps
-few_steps c parsed placements us ns b os is held =
-    let same : is.objects ≡ os = objects_are_one_lem.one_list c (file_bytes parsed) is.objects os is.held held in
-    subst (λ (l : List Object). HasFewSteps b (first_names (published l))) same is.steps
+few_steps version parsed placements us ns b os is held =
+    let same : is.objects ≡ os = objects_are_one_lem.one_list (file_bytes parsed) is.objects os is.held held in
+    subst (λ (l : List Object). HasFewSteps b (pool_names (published l))) same is.steps
 
 pub one_merge : HasOneMerge
 unfolding scan_of
@@ -89,10 +87,10 @@ same_scans os count (Some s) None left right = absurd (no_unit (units_of_all os)
 same_scans os count (Some s) (Some t) left right = ap (λ (x : Scan). Some x) (same_scan os count s t left right)
 
 pub one_sized : HasOneSize
-one_sized version c files ps n m s t left right =
+one_sized version files ps n m s t left right =
     let os = left.objects in
-    let count : List Object → ℕ = λ l. length (placed c files (unit_lists l) ps) in
-    let same : right.objects ≡ os = objects_are_one_lem.one_list c files right.objects os right.held left.held in
+    let count : List Object → ℕ = λ l. length (placed files (unit_lists l) ps) in
+    let same : right.objects ≡ os = objects_are_one_lem.one_list files right.objects os right.held left.held in
     let size = subst (λ (l : List Object). IsSize version (counts_of l (count l)) m) same right.size_is in
     let scanned = subst (λ (l : List Object). IsScanOrNone l (count l) t) same right.scanned in
     (sizes_are_one_lem.one_size version (counts_of os (count os)) n m left.size_is size, same_scans os (count os) s t left.scanned scanned)

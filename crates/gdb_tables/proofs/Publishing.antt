@@ -1,18 +1,21 @@
 -- What the scans of objects publish is what the objects publish.
-use Rattle.std.proofs.Common.{◌≡◌, ℕ, ◌+◌, List, [], ◌∷◌, ◌++◌, length, map, Option, Some, None, refl, sym, ap, ◌∙◌, subst}
+use Rattle.std.proofs.Common.{◌≡◌, ℕ, ◌+◌, ◌<◌, ◌==◌, List, [], ◌∷◌, ◌++◌, length, map, Option, Some, None, refl, sym, ap, ◌∙◌, subst}
 use Rattle.std.specs.List.{flat_map}
 use Rattle.std.proofs.lemmas.List.{map-append}
+use Rattle.std.proofs.lemmas.List.Elements.{filter-append}
 use Rattle.gdb_index_format.specs.declared.unit.CuBoundary.{CuBoundary}
 use Rattle.gdb_index_format.specs.Hash.{element_of}
 use Rattle.gdb_index_format.specs.Names.{Entry, NameSet}
-use Rattle.gdb_index_format.specs.Published.{Object, Pair, pairs_at, pairs_of, published_from}
+use Rattle.gdb_index_format.specs.Published.{Object, Pair, bucket, pairs_at, pairs_of, published_from}
 use Rattle.dwarf_sections.specs.UnitSearch.{unit_at}
 use Rattle.gdb_scan.specs.declared.mark.Mark.{Mark}
+use Rattle.gdb_scan.specs.Buckets.{of_bucket}
 use Rattle.gdb_scan.specs.Groups.{groups}
 use Rattle.gdb_scan.specs.Marks.{marks_at, marks_in, marks_of}
 use Rattle.gdb_scan.specs.Scan.{ObjectScan, units_in_scan, names_in_scan, IsScanOf}
 use Rattle.gdb_tables.specs.Scans.{mark_word, words_at, words_of_groups, words_from, AreScansOf}
 use Rattle.gdb_scan.proofs.Grouping.{Name}
+use Rattle.gdb_tables.proofs.Pooled.{words_of_bucket, words_next, bucket_again}
 use Rattle.gdb_scan.proofs.Pairing.{Alike, Alike-append, Alike-mapped, Alike-ungrouped, mapped, tagged, ungrouped}
 
 abbrev pub as_pair : Pair → Name × ℕ
@@ -52,29 +55,43 @@ no_marks : (ss : List NameSet) → marks_of [] ss ≡ []
 no_marks [] = refl
 no_marks (s ∷ ss) = no_marks ss
 
--- one object's scan publishes what the object does
-scan_published : (first : ℕ) (o : Object) (s : Option ObjectScan) → IsScanOf o s → Alike (words_of_groups first (names_in_scan s)) (as_pairs (flat_map (pairs_of first o.units) o.sets))
-scan_published first o None none =
-    subst (λ ps. Alike [] ps) (sym (object_published first o.units o.sets ∙ ap (λ us. mapped (mark_word first) (marks_of us o.sets)) none ∙ ap (mapped (mark_word first)) (no_marks o.sets))) (record { order = refl; values = λ n. refl })
-scan_published first o (Some s) is =
+-- the names of objects with their elements, those of each object in the order of first publication
+abbrev pub ordered_words : ℕ → List Object → List (Name × ℕ)
+ordered_words first [] = []
+ordered_words first (o ∷ os) = words_of_groups first (groups (marks_of o.units o.sets)) ++ ordered_words (first + length o.units) os
+
+object_alike : (first : ℕ) (o : Object) → Alike (words_of_groups first (groups (marks_of o.units o.sets))) (as_pairs (flat_map (pairs_of first o.units) o.sets))
+object_alike first o =
     let w = mark_word first in
     let marks = marks_of o.units o.sets in
-    let here : words_of_groups first s.names ≡ mapped w (ungrouped (groups marks)) = ap (words_of_groups first) is.1 ∙ words_ungrouped first (groups marks) in
-    subst (λ ps. Alike ps (as_pairs (flat_map (pairs_of first o.units) o.sets))) (sym here)
+    subst (λ ps. Alike ps (as_pairs (flat_map (pairs_of first o.units) o.sets))) (sym (words_ungrouped first (groups marks)))
     (subst (λ ps. Alike (mapped w (ungrouped (groups marks))) ps) (sym (object_published first o.units o.sets)) (Alike-mapped w (ungrouped (groups marks)) marks (Alike-ungrouped marks)))
+
+pub objects_published : (first : ℕ) (os : List Object) → Alike (ordered_words first os) (as_pairs (published_from first os))
+objects_published first [] = record { order = refl; values = λ n. refl }
+objects_published first (o ∷ os) =
+    subst (λ ps. Alike (ordered_words first (o ∷ os)) ps) (sym (map-append as_pair (flat_map (pairs_of first o.units) o.sets) (published_from (first + length o.units) os)))
+    (Alike-append (words_of_groups first (groups (marks_of o.units o.sets))) (as_pairs (flat_map (pairs_of first o.units) o.sets)) (ordered_words (first + length o.units) os) (as_pairs (published_from (first + length o.units) os)) (object_alike first o) (objects_published (first + length o.units) os))
+
+-- ---- bucket by bucket
 
 same_units : (o : Object) (s : Option ObjectScan) → IsScanOf o s → units_in_scan s ≡ o.units
 same_units o None none = sym none
 same_units o (Some s) is = is.0
 
-pub scans_published : (first : ℕ) (os : List Object) (ss : List (Option ObjectScan)) → AreScansOf os ss → Alike (words_from first ss) (as_pairs (published_from first os))
-scans_published first [] [] h = record { order = refl; values = λ n. refl }
-scans_published first [] (s ∷ ss) h = absurd h
-scans_published first (o ∷ os) [] h = absurd h
-scans_published first (o ∷ os) (s ∷ ss) h =
-    let there : as_pairs (published_from first (o ∷ os)) ≡ as_pairs (flat_map (pairs_of first o.units) o.sets) ++ as_pairs (published_from (first + length o.units) os) =
-    map-append as_pair (flat_map (pairs_of first o.units) o.sets) (published_from (first + length o.units) os) in
-    let rest : Alike (words_from (first + length (units_in_scan s)) ss) (as_pairs (published_from (first + length o.units) os)) =
-    subst (λ (us : List CuBoundary). Alike (words_from (first + length (units_in_scan s)) ss) (as_pairs (published_from (first + length us) os))) (same_units o s h.0) (scans_published (first + length (units_in_scan s)) os ss h.1) in
-    subst (λ ps. Alike (words_from first (s ∷ ss)) ps) (sym there)
-    (Alike-append (words_of_groups first (names_in_scan s)) (as_pairs (flat_map (pairs_of first o.units) o.sets)) (words_from (first + length (units_in_scan s)) ss) (as_pairs (published_from (first + length o.units) os)) (scan_published first o s h.0) rest)
+scan_bucket : (b : ℕ) (o : Object) (s : Option ObjectScan) → b < 32 → IsScanOf o s → of_bucket b (names_in_scan s) ≡ of_bucket b (groups (marks_of o.units o.sets))
+scan_bucket b o None less none = sym (ap (λ (us : List CuBoundary). of_bucket b (groups (marks_of us o.sets))) none ∙ ap (λ ms. of_bucket b (groups ms)) (no_marks o.sets))
+scan_bucket b o (Some s) less is = ap (of_bucket b) is.1 ∙ bucket_again b (groups (marks_of o.units o.sets)) less
+
+-- the scans of objects publish the names of a bucket in the same order
+pub bucket_of_scans : (b first : ℕ) (os : List Object) (ss : List (Option ObjectScan)) → b < 32 → AreScansOf os ss → of_bucket b (words_from first ss) ≡ of_bucket b (ordered_words first os)
+bucket_of_scans b first [] [] less h = refl
+bucket_of_scans b first [] (s ∷ ss) less h = absurd h
+bucket_of_scans b first (o ∷ os) [] less h = absurd h
+bucket_of_scans b first (o ∷ os) (s ∷ ss) less h =
+    words_next b first s ss
+    ∙ ap (λ gs. words_of_groups first gs ++ of_bucket b (words_from (first + length (units_in_scan s)) ss)) (scan_bucket b o s less h.0)
+    ∙ ap (λ l. words_of_groups first (of_bucket b (groups (marks_of o.units o.sets))) ++ l) (bucket_of_scans b (first + length (units_in_scan s)) os ss less h.1)
+    ∙ ap (λ (us : List CuBoundary). words_of_groups first (of_bucket b (groups (marks_of o.units o.sets))) ++ of_bucket b (ordered_words (first + length us) os)) (same_units o s h.0)
+    ∙ ap (λ l. l ++ of_bucket b (ordered_words (first + length o.units) os)) (sym (words_of_bucket b first (groups (marks_of o.units o.sets))))
+    ∙ sym (filter-append (λ (p : Name × ℕ). bucket p.0 == b) (words_of_groups first (groups (marks_of o.units o.sets))) (ordered_words (first + length o.units) os))

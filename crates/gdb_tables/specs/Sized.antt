@@ -1,6 +1,5 @@
 -- The size of the index of some objects, and why there is none.
 use Rattle.std.specs.Prelude.{◌≡◌, ℕ, ◌^◌, ◌<◌, ◌≤◌, List, [], length, Option, Some, None}
-use Rattle.elf_format.specs.Class.{Class}
 use Rattle.gdb_index.specs.Scan.{Scan}
 use Rattle.gdb_index_format.specs.declared.placement.Placement.{Placement}
 use Rattle.gdb_index_format.specs.Named.{ListsPublished}
@@ -25,28 +24,28 @@ IsScanOrNone os count None = units_of_all os ≡ []
 IsScanOrNone os count (Some scan) = IsScanOfAll os count scan
 
 -- Files that hold objects, whose index has this size and this scan.
-pub record SizesIndex (version : ℕ) (c : Class) (files : List (List ℕ)) (ps : List Placement) (size : ℕ) (scan : Option Scan) : Type 0 where
+pub record SizesIndex (version : ℕ) (files : List (List ℕ)) (ps : List Placement) (size : ℕ) (scan : Option Scan) : Type 0 where
   pub objects : List Object
-  pub held : AreObjectsOf c files objects
-  pub plain : ArePlain c files
+  pub held : AreObjectsOf files objects
+  pub plain : ArePlain files
   pub few : length (units_of_all objects) ≤ 2 ^ 24
-  pub size_is : IsSize version (counts_of objects (length (placed c files (unit_lists objects) ps))) size
-  pub scanned : IsScanOrNone objects (length (placed c files (unit_lists objects) ps)) scan
+  pub size_is : IsSize version (counts_of objects (length (placed files (unit_lists objects) ps))) size
+  pub scanned : IsScanOrNone objects (length (placed files (unit_lists objects) ps)) scan
 
 -- Files that hold objects, whose index has a size that its offsets can count.
-pub record IsIndexable (version : ℕ) (c : Class) (files : List (List ℕ)) (ps : List Placement) : Type 0 where
+pub record IsIndexable (version : ℕ) (files : List (List ℕ)) (ps : List Placement) : Type 0 where
   pub objects : List Object
-  pub held : AreObjectsOf c files objects
-  pub plain : ArePlain c files
+  pub held : AreObjectsOf files objects
+  pub plain : ArePlain files
   pub few : length (units_of_all objects) ≤ 2 ^ 24
   pub size : ℕ
-  pub size_is : IsSize version (counts_of objects (length (placed c files (unit_lists objects) ps))) size
+  pub size_is : IsSize version (counts_of objects (length (placed files (unit_lists objects) ps))) size
   pub fits : size < 2 ^ 32
 
 -- Why an index has no size: the first object that is not scanned, or objects that have too many units, or whose
 -- index is too large. Out of memory needs no cause.
-pub data IsSizeCause (version : ℕ) (c : Class) (files : List (List ℕ)) (ps : List Placement) : GdbError → Type 0 where
-  in_object : (e : GdbError) → FirstBadObject c files e → IsSizeCause version c files ps e
-  too_many : (os : List Object) → AreObjectsOf c files os → ArePlain c files → 2 ^ 24 < length (units_of_all os) → IsSizeCause version c files ps (TooManyUnits (length (units_of_all os)))
-  too_large : (os : List Object) → AreObjectsOf c files os → ArePlain c files → length (units_of_all os) ≤ 2 ^ 24 → (size : ℕ) → IsSize version (counts_of os (length (placed c files (unit_lists os) ps))) size → 2 ^ 32 ≤ size → IsSizeCause version c files ps (IndexTooLarge size)
-  no_memory : IsSizeCause version c files ps NoMemory
+pub data IsSizeCause (version : ℕ) (files : List (List ℕ)) (ps : List Placement) : GdbError → Type 0 where
+  in_object : (e : GdbError) → FirstBadObject files e → IsSizeCause version files ps e
+  too_many : (os : List Object) → AreObjectsOf files os → ArePlain files → 2 ^ 24 < length (units_of_all os) → IsSizeCause version files ps (TooManyUnits (length (units_of_all os)))
+  too_large : (os : List Object) → AreObjectsOf files os → ArePlain files → length (units_of_all os) ≤ 2 ^ 24 → (size : ℕ) → IsSize version (counts_of os (length (placed files (unit_lists os) ps))) size → 2 ^ 32 ≤ size → IsSizeCause version files ps (IndexTooLarge size)
+  no_memory : IsSizeCause version files ps NoMemory

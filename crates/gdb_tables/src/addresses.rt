@@ -6,14 +6,15 @@ ghost use Rattle.std.specs.Prelude.{◌≡◌, ℕ, List, ◌+◌, ◌^◌, ◌<
 ghost use Rattle.std.specs.List.{All};
 ghost use Rattle.gdb_index_format.specs.declared.unit.CuBoundary.{CuBoundary as CuBoundary_spec};
 ghost use Rattle.gdb_index_format.specs.Addresses.{unit_of_section, unit_relocation_fault};
-ghost use Rattle.gdb_index_format.specs.Objects.{IsUnitsOf, AreUnitsOf};
+ghost use Rattle.elf_view.specs.AnyFile.{parsed};
+ghost use Rattle.gdb_index_format.specs.Objects.{class_in, IsUnitsOf, AreUnitsOf};
 ghost use Rattle.gdb_index_format.specs.Placed.{placed};
 ghost use Rattle.gdb_tables.specs.Addresses.{IsScanOfUnits, addresses, first_relocation_fault, IsAddressCause};
 ghost use Rattle.gdb_tables.specs.steps.ObjectEntries.{of_map_error, entry_at, entries_at, entries_of, unit_mapped, AreListedUnits, IsEntriesCause};
-ghost use Rattle.gdb_tables.specs.Files.{file_bytes, ArePlacedIn};
+ghost use Rattle.gdb_tables.specs.Files.{all_parsed, file_bytes, ArePlacedIn};
 ghost use Rattle.gdb_scan.specs.PlacedIn.{ArePlacements, of_object};
 
-use elf_view::File;
+use elf_view::{AnyFile, File};
 use elf_words::ElfClass;
 use gdb_index::GdbIndexScanResult;
 use gdb_index_format::{AddressEntry, CuBoundary, Placement};
@@ -124,6 +125,50 @@ fn add_object<C: ElfClass>(
     Ok(())
 }
 
+/// Adds the entries of an object's placements, where its class is the one that its bytes name.
+fn add_file<C: ElfClass>(
+    alloc: Global,
+    entries: &mut Vec<AddressEntry>,
+    object: usize,
+    file: &File<'_, C>,
+    first: u32,
+    units: &[CuBoundary],
+    placements: &[Placement],
+) -> Result<(), GdbError>
+    requires held { AreListedUnits (class_in file.now.bytes) file.now.bytes units.now }
+    requires room { first + length units.now ≤ 2 ^ 24 }
+    requires fit { All (λ p. p.address + p.size < 2 ^ 64) placements.now }
+    ensures entries { OnOk result ((us : List CuBoundary_spec) → IsUnitsOf (class_in file.now.bytes) file.now.bytes us → entries.new.items ≡ entries.old.items ++ entries_of (class_in file.now.bytes) file.now first us placements.now) }
+    ensures sound { OnOk result ((us : List CuBoundary_spec) → IsUnitsOf (class_in file.now.bytes) file.now.bytes us → unit_relocation_fault (class_in file.now.bytes) file.now.is_dynamic file.now.bytes us ≡ None) }
+    ensures cause { IfErr result (λ e. (us : List CuBoundary_spec) → IsUnitsOf (class_in file.now.bytes) file.now.bytes us → IsEntriesCause object (unit_relocation_fault (class_in file.now.bytes) file.now.is_dynamic file.now.bytes us) e) }
+{
+    file.well_formed();
+    add_object(alloc, entries, object, file, first, units, placements)
+}
+
+/// Adds the entries of the placements of an object of either class.
+fn add_any_object(
+    alloc: Global,
+    entries: &mut Vec<AddressEntry>,
+    object: usize,
+    file: &AnyFile<'_>,
+    first: u32,
+    units: &[CuBoundary],
+    placements: &[Placement],
+) -> Result<(), GdbError>
+    requires held { AreListedUnits (class_in (parsed file.now).bytes) (parsed file.now).bytes units.now }
+    requires room { first + length units.now ≤ 2 ^ 24 }
+    requires fit { All (λ p. p.address + p.size < 2 ^ 64) placements.now }
+    ensures entries { OnOk result ((us : List CuBoundary_spec) → IsUnitsOf (class_in (parsed file.now).bytes) (parsed file.now).bytes us → entries.new.items ≡ entries.old.items ++ entries_of (class_in (parsed file.now).bytes) (parsed file.now) first us placements.now) }
+    ensures sound { OnOk result ((us : List CuBoundary_spec) → IsUnitsOf (class_in (parsed file.now).bytes) (parsed file.now).bytes us → unit_relocation_fault (class_in (parsed file.now).bytes) (parsed file.now).is_dynamic (parsed file.now).bytes us ≡ None) }
+    ensures cause { IfErr result (λ e. (us : List CuBoundary_spec) → IsUnitsOf (class_in (parsed file.now).bytes) (parsed file.now).bytes us → IsEntriesCause object (unit_relocation_fault (class_in (parsed file.now).bytes) (parsed file.now).is_dynamic (parsed file.now).bytes us) e) }
+{
+    match file {
+        AnyFile::Class64(file) => add_file(alloc, entries, object, file, first, units, placements),
+        AnyFile::Class32(file) => add_file(alloc, entries, object, file, first, units, placements),
+    }
+}
+
 /// Returns the entries of the address area: one for each placement that counts and is at an address above 0, in the
 /// order of the placements. A placement counts where its size is above 0, its section has the flags `SHF_ALLOC` and
 /// `SHF_EXECINSTR`, and its object has a compilation unit (CU). The CU of an entry is the one that the relocations of
@@ -137,20 +182,20 @@ fn add_object<C: ElfClass>(
 /// Requires fewer than 2^24 files, each of fewer than 2^39 bytes; placements that ascend by object and section, name
 /// objects and sections that exist, and whose ends fit 64 bits; and a scan whose CUs, CU counts and number of placed
 /// sections are those of these files and placements.
-pub fn build_address_entries<C: ElfClass>(
+pub fn build_address_entries(
     alloc: Global,
-    files: &[File<'_, C>],
+    files: &[AnyFile<'_>],
     scan: &GdbIndexScanResult<'_>,
     placements: &[Placement],
 ) -> Result<Vec<AddressEntry>, GdbError>
     requires few { length files.now < 2 ^ 24 }
-    requires small { All (λ file. length file.bytes < 2 ^ 39) files.now }
-    requires placements { ArePlacedIn C.class (file_bytes files.now) placements.now }
-    requires scanned { (uss : List (List CuBoundary_spec)) × AreUnitsOf C.class (file_bytes files.now) uss × IsScanOfUnits uss (length (placed C.class (file_bytes files.now) uss placements.now)) scan.now }
-    ensures entries { IfOk result (λ v. (uss : List (List CuBoundary_spec)) → AreUnitsOf C.class (file_bytes files.now) uss → v.items ≡ addresses C.class files.now uss placements.now) }
-    ensures sound { OnOk result ((uss : List (List CuBoundary_spec)) → AreUnitsOf C.class (file_bytes files.now) uss → first_relocation_fault C.class files.now uss ≡ None) }
+    requires small { All (λ file. length file.bytes < 2 ^ 39) (all_parsed files.now) }
+    requires placements { ArePlacedIn (file_bytes (all_parsed files.now)) placements.now }
+    requires scanned { (uss : List (List CuBoundary_spec)) × AreUnitsOf (file_bytes (all_parsed files.now)) uss × IsScanOfUnits uss (length (placed (file_bytes (all_parsed files.now)) uss placements.now)) scan.now }
+    ensures entries { IfOk result (λ v. (uss : List (List CuBoundary_spec)) → AreUnitsOf (file_bytes (all_parsed files.now)) uss → v.items ≡ addresses (all_parsed files.now) uss placements.now) }
+    ensures sound { OnOk result ((uss : List (List CuBoundary_spec)) → AreUnitsOf (file_bytes (all_parsed files.now)) uss → first_relocation_fault (all_parsed files.now) uss ≡ None) }
     ensures few { IfOk result (λ v. length v.items ≤ scan.now.placed) }
-    ensures cause { IfErr result (λ e. (uss : List (List CuBoundary_spec)) → AreUnitsOf C.class (file_bytes files.now) uss → IsAddressCause (first_relocation_fault C.class files.now uss) e) }
+    ensures cause { IfErr result (λ e. (uss : List (List CuBoundary_spec)) → AreUnitsOf (file_bytes (all_parsed files.now)) uss → IsAddressCause (first_relocation_fault (all_parsed files.now) uss) e) }
 {
     let units = scan.units();
     let counts = scan.unit_counts();
@@ -160,7 +205,7 @@ pub fn build_address_entries<C: ElfClass>(
         let end = first + counts[object];
         let listed = &units[first as usize..end as usize];
         let own = placements_of(object, placements);
-        match add_object(alloc, &mut entries, object, file, first, listed, own) {
+        match add_any_object(alloc, &mut entries, object, file, first, listed, own) {
             Ok(()) => first = end,
             Err(error) => return Err(error),
         }

@@ -8,22 +8,21 @@ ghost use Rattle.std.specs.Ordering.{nat_cmp};
 ghost use Rattle.gdb_index_format.specs.Named.{all_named, names_in, AreNamesOf, AnswersAll, HasFewSteps};
 ghost use Rattle.gdb_index_format.specs.Published.{Pair};
 ghost use Rattle.gdb_index_format.specs.Units.{index_units};
-ghost use Rattle.gdb_index_format.specs.Version.{index_version};
+ghost use Rattle.gdb_index_format.specs.Version.{version_number};
 ghost use Rattle.gdb_index.specs.Layout.{IsLayoutOf};
 ghost use Rattle.gdb_index.specs.Size.{IsIndexSize, scan_counts};
 ghost use Rattle.gdb_scan.specs.Cause.{IsRefusedFor, IsOnlyMemory};
 ghost use Rattle.gdb_scan.specs.declared.error.GdbError.{GdbError as GdbError_spec};
 ghost use Rattle.gdb_scan.specs.declared.error.GdbError.TheVariants.{NoMemory};
-ghost use Rattle.gdb_tables.specs.Files.{file_bytes, ArePlacedIn};
+ghost use Rattle.gdb_tables.specs.Files.{all_parsed, file_bytes, ArePlacedIn};
 ghost use Rattle.gdb_tables.specs.Index.{IsIndexOf, AreRelocated, IsBuildCause};
 ghost use Rattle.gdb_tables.specs.Sized.{SizesIndex, IsIndexable};
 
 use crate::addresses::build_address_entries;
 use crate::sizing::compute_gdb_index_size;
-use elf_view::File;
-use elf_words::ElfClass;
-use gdb_index::{GdbIndexScanResult, INDEX_VERSION, write_gdb_index};
-use gdb_index_format::{AddressEntry, CuBoundary, NameWords, Placement};
+use elf_view::AnyFile;
+use gdb_index::{GdbIndexScanResult, write_gdb_index};
+use gdb_index_format::{AddressEntry, CuBoundary, IndexVersion, NameWords, Placement};
 use gdb_scan::GdbError;
 use std::alloc::{AllocError, Global};
 
@@ -47,24 +46,25 @@ fn sort_names(names: &mut Vec<NameWords<'_>>) -> Result<(), AllocError>
     Ok(())
 }
 
-/// Returns the bytes of the index of a scan, of this size.
+/// Returns the bytes of the index of a scan in a version, of this size.
 fn index_bytes(
     alloc: Global,
     size: u32,
     scan: &GdbIndexScanResult<'_>,
     addresses: &[AddressEntry],
+    version: IndexVersion,
 ) -> Result<Vec<u8>, AllocError>
-    requires room { IsIndexSize INDEX_VERSION (scan_counts scan.now) size }
+    requires room { IsIndexSize (version_number version) (scan_counts scan.now) size }
     requires some { 1 ≤ size }
     requires addresses { length addresses.now ≤ scan.now.placed }
     ensures size { IfOk result (λ v. length v.items ≡ size) }
-    ensures layout { IfOk result (λ v. IsLayoutOf INDEX_VERSION scan.now addresses.now v.items) }
+    ensures layout { IfOk result (λ v. IsLayoutOf (version_number version) scan.now addresses.now v.items) }
     ensures units { IfOk result (λ v. index_units v.items ≡ scan.now.units) }
     ensures steps { IfOk result (λ v. HasFewSteps v.items (names_in scan.now.names)) }
     ensures published { IfOk result (λ v. (ps : List Pair) → AreNamesOf ps scan.now.names → AnswersAll v.items ps) }
 {
     let mut index = vec![in alloc; 0u8; size as usize]?;
-    write_gdb_index(&mut index, scan, addresses);
+    write_gdb_index(&mut index, scan, addresses, version);
     Ok(index)
 }
 
@@ -74,12 +74,13 @@ fn written<'a>(
     size: u32,
     scan: GdbIndexScanResult<'a>,
     addresses: &[AddressEntry],
+    version: IndexVersion,
 ) -> Result<IndexTables<'a>, AllocError>
-    requires room { IsIndexSize INDEX_VERSION (scan_counts scan) size }
+    requires room { IsIndexSize (version_number version) (scan_counts scan) size }
     requires some { 1 ≤ size }
     requires addresses { length addresses.now ≤ scan.placed }
     ensures size { IfOk result (λ t. length t.index.items ≡ size) }
-    ensures layout { IfOk result (λ t. IsLayoutOf INDEX_VERSION scan.entry addresses.now t.index.items) }
+    ensures layout { IfOk result (λ t. IsLayoutOf (version_number version) scan.entry addresses.now t.index.items) }
     ensures listed { IfOk result (λ t. index_units t.index.items ≡ scan.entry.units) }
     ensures steps { IfOk result (λ t. HasFewSteps t.index.items (names_in scan.entry.names)) }
     ensures published { IfOk result (λ t. (ps : List Pair) → AreNamesOf ps scan.entry.names → AnswersAll t.index.items ps) }
@@ -87,7 +88,7 @@ fn written<'a>(
     ensures names { IfOk result (λ t. IsPermutation scan.entry.names (all_named t.names.items)) }
     ensures sorted { IfOk result (λ t. IsSortedByKey (λ n. n.name.now) (slice_cmp nat_cmp) t.names.items) }
 {
-    let index = index_bytes(alloc, size, &scan, addresses)?;
+    let index = index_bytes(alloc, size, &scan, addresses, version)?;
     let (units, mut names) = scan.into_parts();
     sort_names(&mut names)?;
     Ok(IndexTables {
@@ -98,34 +99,35 @@ fn written<'a>(
 }
 
 /// Builds the index of the objects whose scan this is, of this size.
-fn tables_of_scan<'a, C: ElfClass>(
+fn tables_of_scan<'a>(
     alloc: Global,
-    files: &[File<'a, C>],
+    files: &[AnyFile<'a>],
     placements: &[Placement],
     size: u32,
     scan: GdbIndexScanResult<'a>,
+    version: IndexVersion,
 ) -> Result<IndexTables<'a>, GdbError>
     requires few { length files.now < 2 ^ 24 }
-    requires small { All (λ file. length file.bytes < 2 ^ 39) files.now }
-    requires placements { ArePlacedIn C.class (file_bytes files.now) placements.now }
-    requires sized { SizesIndex INDEX_VERSION C.class (file_bytes files.now) placements.now size (Some scan) }
-    requires room { IsIndexSize INDEX_VERSION (scan_counts scan) size }
-    requires indexable { IsIndexable index_version C.class (file_bytes files.now) placements.now }
-    ensures index { IfOk result (λ t. IsIndexOf C.class files.now placements.now t.units.items t.names.items t.index.items) }
-    ensures relocated { OnOk result (AreRelocated C.class files.now) }
-    ensures cause { IfErr result (IsBuildCause C.class files.now placements.now) }
+    requires small { All (λ file. length file.bytes < 2 ^ 39) (all_parsed files.now) }
+    requires placements { ArePlacedIn (file_bytes (all_parsed files.now)) placements.now }
+    requires sized { SizesIndex (version_number version) (file_bytes (all_parsed files.now)) placements.now size (Some scan) }
+    requires room { IsIndexSize (version_number version) (scan_counts scan) size }
+    requires indexable { IsIndexable (version_number version) (file_bytes (all_parsed files.now)) placements.now }
+    ensures index { IfOk result (λ t. IsIndexOf (version_number version) (all_parsed files.now) placements.now t.units.items t.names.items t.index.items) }
+    ensures relocated { OnOk result (AreRelocated (all_parsed files.now)) }
+    ensures cause { IfErr result (IsBuildCause (version_number version) (all_parsed files.now) placements.now) }
 {
     let addresses = match build_address_entries(alloc, files, &scan, placements) {
         Ok(addresses) => addresses,
         Err(error) => return Err(error),
     };
-    match written(alloc, size, scan, &addresses) {
+    match written(alloc, size, scan, &addresses, version) {
         Ok(tables) => Ok(tables),
         Err(_) => Err(GdbError::NoMemory),
     }
 }
 
-/// Builds the index of all objects. Without a unit it has no bytes.
+/// Builds the index of all objects in a version. Without a unit it has no bytes.
 ///
 /// The errors, in this order: those of `compute_gdb_index_size`; `BadElf`, as `build_address_entries` returns it.
 /// `NoMemory` may come for any objects, and is the only error for objects whose index has a size of at most
@@ -133,24 +135,25 @@ fn tables_of_scan<'a, C: ElfClass>(
 ///
 /// Requires fewer than 2^24 files, each of fewer than 2^39 bytes, and placements that ascend by object and section, name
 /// objects and sections that exist, and whose ends fit 64 bits.
-pub fn build_index<'a, C: ElfClass>(
+pub fn build_index<'a>(
     alloc: Global,
-    files: &[File<'a, C>],
+    files: &[AnyFile<'a>],
     placements: &[Placement],
+    version: IndexVersion,
 ) -> Result<IndexTables<'a>, GdbError>
     requires few { length files.now < 2 ^ 24 }
-    requires small { All (λ file. length file.bytes < 2 ^ 39) files.now }
-    requires placements { ArePlacedIn C.class (file_bytes files.now) placements.now }
-    ensures index { IfOk result (λ t. IsIndexOf C.class files.now placements.now t.units.items t.names.items t.index.items) }
-    ensures indexable { OnOk result (IsIndexable index_version C.class (file_bytes files.now) placements.now) }
-    ensures relocated { OnOk result (AreRelocated C.class files.now) }
-    ensures cause { IfErr result (IsBuildCause C.class files.now placements.now) }
-    ensures exact { (e : GdbError_spec) → IsBuildCause C.class files.now placements.now e → e ≢ NoMemory → IsRefusedFor result e }
-    ensures complete { IsIndexable index_version C.class (file_bytes files.now) placements.now → AreRelocated C.class files.now → IfErr result IsOnlyMemory }
+    requires small { All (λ file. length file.bytes < 2 ^ 39) (all_parsed files.now) }
+    requires placements { ArePlacedIn (file_bytes (all_parsed files.now)) placements.now }
+    ensures index { IfOk result (λ t. IsIndexOf (version_number version) (all_parsed files.now) placements.now t.units.items t.names.items t.index.items) }
+    ensures indexable { OnOk result (IsIndexable (version_number version) (file_bytes (all_parsed files.now)) placements.now) }
+    ensures relocated { OnOk result (AreRelocated (all_parsed files.now)) }
+    ensures cause { IfErr result (IsBuildCause (version_number version) (all_parsed files.now) placements.now) }
+    ensures exact { (e : GdbError_spec) → IsBuildCause (version_number version) (all_parsed files.now) placements.now e → e ≢ NoMemory → IsRefusedFor result e }
+    ensures complete { IsIndexable (version_number version) (file_bytes (all_parsed files.now)) placements.now → AreRelocated (all_parsed files.now) → IfErr result IsOnlyMemory }
 {
-    match compute_gdb_index_size(alloc, files, placements) {
+    match compute_gdb_index_size(alloc, files, placements, version) {
         Ok((size, Some(scan))) => {
-            match tables_of_scan(alloc, files, placements, size, scan) {
+            match tables_of_scan(alloc, files, placements, size, scan, version) {
                 Ok(tables) => Ok(tables),
                 Err(error) => Err(error),
             }

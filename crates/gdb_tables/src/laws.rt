@@ -23,9 +23,8 @@ pub fn built_indexes_are_one()
     ensures { HasOneIndex }
 {}
 
-/// In the index of objects the name of pool index i, from 1, is found within i probe steps, where the pool order is the
-/// order of first publication. An absent name ends within one step more than there are names, or without a step where
-/// there are none.
+/// In the index of objects the i-th name in pool order, from 1, is found within i probe steps. An absent name ends within
+/// one step more than there are names, or without a step where there are none.
 pub fn index_has_few_steps()
     ensures { IndexHasFewSteps }
 {}

@@ -4,6 +4,7 @@
 #![tactic(auto)]
 
 mod addresses;
+mod counts;
 mod files;
 mod index;
 mod laws;
@@ -18,11 +19,11 @@ pub use dwarf_sections::{
 };
 pub use files::scan_objects;
 pub use gdb_index::{
-    AddressEntry, BadIndex, CuVector, GdbIndexScanResult, INDEX_VERSION, IndexCounts,
-    IndexTooLarge, NameWords, Steps, checked_index_size, compute_hash_table_slots,
-    encode_cu_vector_entry, gdb_hash, index_size, lookup, write_gdb_index,
+    AddressEntry, BadIndex, CuVector, GdbIndexScanResult, IndexCounts, IndexTooLarge, NameWords,
+    Steps, checked_index_size, compute_hash_table_slots, encode_cu_vector_entry, gdb_hash,
+    index_size, lookup, write_gdb_index,
 };
-pub use gdb_index_format::{CuBoundary, Placement, UnitFault};
+pub use gdb_index_format::{CuBoundary, IndexVersion, Placement, UnitFault};
 pub use gdb_scan::{
     GdbError, MapError, Mark, NameMarks, PerObjectScan, build_section_cu_map, scan_causes_are_one,
     scan_one_object,

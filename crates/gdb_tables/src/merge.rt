@@ -7,16 +7,18 @@ ghost use Rattle.std.specs.List.Sorted.{IsPermutation, IsNonDecreasing};
 ghost use Rattle.gdb_index_format.specs.Named.{all_named, ListsPublished};
 ghost use Rattle.gdb_index_format.specs.Published.{Object, published, end_to_end};
 ghost use Rattle.gdb_index_format.specs.Units.{total_length};
+ghost use Rattle.gdb_scan.specs.Buckets.{of_bucket, in_buckets};
 ghost use Rattle.gdb_scan.specs.Groups.{shown, groups, add_all};
 ghost use Rattle.gdb_scan.specs.Marks.{groups_in};
 ghost use Rattle.gdb_scan.specs.Scan.{units_in_scan, names_in_scan, placed_in_scan, HasSoundNames};
-ghost use Rattle.gdb_tables.specs.Scans.{unit_counts, unit_total, units_in_scans, placed_total, mark_word, words_of_groups, words_from, AreScansOf};
+ghost use Rattle.gdb_tables.specs.Scans.{unit_counts, unit_total, units_in_scans, placed_total, words_of_groups, words_from, AreScansOf};
 ghost use Rattle.gdb_tables.specs.Merged.{AreSorted, HaveSmallWords, IsMergeOf, IsMergeCause};
 
-use crate::names::publish_list;
-use gdb_index::{GdbIndexScanResult, encode_cu_vector_entry};
+use crate::counts::count_marks;
+use crate::names::publish_marks;
+use gdb_index::GdbIndexScanResult;
 use gdb_index_format::{CuBoundary, NameWords};
-use gdb_scan::{GdbError, Mark, NameMarks, PerObjectScan};
+use gdb_scan::{GdbError, NameMarks, PerObjectScan};
 use indexmap::IndexMap;
 use std::alloc::{AllocError, Global};
 
@@ -25,6 +27,7 @@ fn units_of<'s>(scan: &'s Option<PerObjectScan<'_>>) -> &'s [CuBoundary]
     ensures units { result.now ≡ units_in_scan scan.now }
     ensures counted { 4 * length result.now ≤ total_length result.now }
     ensures small { total_length result.now < 2 ^ 39 }
+    ensures sound { HasSoundNames scan.now }
 {
     match scan {
         Some(scan) => scan.units(),
@@ -32,13 +35,16 @@ fn units_of<'s>(scan: &'s Option<PerObjectScan<'_>>) -> &'s [CuBoundary]
     }
 }
 
-/// The names that an object publishes, none where it has no scan.
-fn names_of<'s, 'a>(scan: &'s Option<PerObjectScan<'a>>) -> &'s [NameMarks<'a>]
-    ensures names { groups_in result.now ≡ names_in_scan scan.now }
+/// The names of a bucket that an object publishes, none where it has no scan.
+pub(crate) fn names_of<'s, 'a>(
+    scan: &'s Option<PerObjectScan<'a>>,
+    bucket: u32,
+) -> &'s [NameMarks<'a>]
+    ensures names { groups_in result.now ≡ of_bucket bucket (names_in_scan scan.now) }
     ensures sound { HasSoundNames scan.now }
 {
     match scan {
-        Some(scan) => scan.names(),
+        Some(scan) => scan.names_of_bucket(bucket),
         None => &[],
     }
 }
@@ -57,7 +63,8 @@ fn placed_of(scan: &Option<PerObjectScan<'_>>) -> usize
 /// How many units all objects have.
 fn count_units(scans: &[Option<PerObjectScan<'_>>]) -> u64
     requires { length scans.now < 2 ^ 24 }
-    ensures { result ≡ unit_total scans.now }
+    ensures total { result ≡ unit_total scans.now }
+    ensures sound { AllByRecursion HasSoundNames scans.now }
 {
     let mut count = 0;
     for scan in scans {
@@ -127,51 +134,40 @@ fn placed_units(
     Ok(units)
 }
 
-/// The elements of the marks of a name, where the object's first unit has the number `first`.
-fn words_of(alloc: Global, first: u32, marks: &[Mark]) -> Result<Vec<u32>, AllocError>
-    requires { All (λ m. first + m.unit < 2 ^ 24) marks.now }
-    ensures { IfOk result (λ words. words.items ≡ map (mark_word first) marks.now) }
-{
-    let mut words = Vec::with_capacity(alloc, marks.len())?;
-    for mark in marks {
-        words.push(encode_cu_vector_entry(first + mark.unit as u32, mark.flag))?;
-    }
-    Ok(words)
-}
-
-/// Publishes the names of an object whose first unit has the number `first`.
+/// Publishes the names of a bucket of an object whose first unit has the number `first`.
 fn publish_scan<'a>(
     names: &mut IndexMap<&'a [u8], Vec<u32>>,
     alloc: Global,
+    counts: &IndexMap<&'a [u8], usize>,
     first: u32,
     scan: &Option<PerObjectScan<'a>>,
+    bucket: u32,
 ) -> Result<(), AllocError>
     requires { first + length (units_in_scan scan.now) ≤ 2 ^ 24 }
-    ensures published { OnOk result (shown names.new.entries ≡ add_all (shown names.old.entries) (words_of_groups first (names_in_scan scan.now))) }
-    ensures sound { OnOk result (HasSoundNames scan.now) }
+    ensures { OnOk result (shown names.new.entries ≡ add_all (shown names.old.entries) (words_of_groups first (of_bucket bucket (names_in_scan scan.now)))) }
 {
-    let list = names_of(scan);
+    let list = names_of(scan, bucket);
     for named in list {
-        let words = words_of(alloc, first, &named.marks)?;
-        publish_list(names, named.name, words)?;
+        publish_marks(names, alloc, counts, first, named)?;
     }
     Ok(())
 }
 
-/// The elements of each name, in input order. Each scan is given up as soon as its names are published.
+/// The elements of each name of a bucket, in input order.
 fn gather_words<'a>(
     alloc: Global,
-    scans: Vec<Option<PerObjectScan<'a>>>,
+    scans: &[Option<PerObjectScan<'a>>],
+    bucket: u32,
 ) -> Result<IndexMap<&'a [u8], Vec<u32>>, AllocError>
-    requires { unit_total scans.items ≤ 2 ^ 24 }
-    ensures words { IfOk result (λ names. shown names.entries ≡ groups (words_from 0 scans.entry.items)) }
-    ensures sound { OnOk result (AllByRecursion HasSoundNames scans.entry.items) }
+    requires { unit_total scans.now ≤ 2 ^ 24 }
+    ensures { IfOk result (λ names. shown names.entries ≡ groups (of_bucket bucket (words_from 0 scans.now))) }
 {
-    let mut names = IndexMap::new(alloc);
+    let counts = count_marks(alloc, scans, bucket)?;
+    let mut names = IndexMap::with_capacity(alloc, counts.len())?;
     let mut first = 0;
     for scan in scans {
-        publish_scan(&mut names, alloc, first, &scan)?;
-        first += units_of(&scan).len() as u32;
+        publish_scan(&mut names, alloc, &counts, first, scan, bucket)?;
+        first += units_of(scan).len() as u32;
     }
     Ok(names)
 }
@@ -203,12 +199,34 @@ fn sorted_names<'a>(
     Ok(list)
 }
 
+/// The number of buckets of names.
+const BUCKETS: u32 = 32;
+
+/// All names in pool order: in ascending order of bucket, and within one bucket in the order of first publication. Each
+/// bucket has a map of its own.
+fn pool_names<'a>(
+    alloc: Global,
+    scans: &[Option<PerObjectScan<'a>>],
+) -> Result<Vec<NameWords<'a>>, AllocError>
+    requires { unit_total scans.now ≤ 2 ^ 24 }
+    ensures sorted { IfOk result (λ list. AreSorted (in_buckets (groups (words_from 0 scans.now))) (all_named list.items)) }
+    ensures fit { IfOk result (λ list. HaveSmallWords (all_named list.items)) }
+{
+    let mut list = Vec::new(alloc);
+    for bucket in 0..BUCKETS {
+        let words = gather_words(alloc, scans, bucket)?;
+        let mut names = sorted_names(alloc, words)?;
+        list.append(&mut names)?;
+    }
+    Ok(list)
+}
+
 /// The most units that the elements of a CU vector can number.
 const MAX_UNITS: u64 = 1 << 24;
 
 /// The merge of the scans of all objects, one scan per object, in input order: all units, each with an offset that
-/// sums the lengths of all units before it; the names in the order of first publication, each with its CU vector in
-/// ascending order; and how many sections are placed. An object without a scan has no unit.
+/// sums the lengths of all units before it; the names in pool order, which is ascending order of bucket and within one
+/// bucket the order of first publication, each with its CU vector in ascending order; and how many sections are placed. An object without a scan has no unit.
 ///
 /// `TooManyUnits`, with the number of all units, comes exactly where there are more than 16,777,216 of them;
 /// `NoMemory` may come at any scans. There are fewer than 2^24 scans.
@@ -229,7 +247,6 @@ pub fn merge_gdb_index_scans<'a>(
     let units = placed_units(alloc, all, count as usize)?;
     let counts = list_unit_counts(alloc, all)?;
     let placed = count_placed(all);
-    let words = gather_words(alloc, scans)?;
-    let names = sorted_names(alloc, words)?;
+    let names = pool_names(alloc, all)?;
     Ok(GdbIndexScanResult::new(units, names, placed, counts))
 }

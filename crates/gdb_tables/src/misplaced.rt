@@ -2,13 +2,11 @@
 //! sections that are there, and their ends fit 64 bits.
 
 ghost use Rattle.std.specs.Prelude.{◌≡◌, ℕ, List, None, slice_get};
-ghost use Rattle.elf_format.specs.Class.{Class};
 ghost use Rattle.gdb_index_format.specs.declared.placement.Placement.{Placement as Placement_spec};
-ghost use Rattle.gdb_tables.specs.Files.{file_bytes, ArePlacedIn};
+ghost use Rattle.gdb_tables.specs.Files.{all_parsed, file_bytes, ArePlacedIn};
 ghost use Rattle.gdb_tables.specs.Misplaced.{follows, is_there, is_well_placed, misplaced};
 
-use elf_view::File;
-use elf_words::ElfClass;
+use elf_view::AnyFile;
 use gdb_index_format::Placement;
 
 /// Whether a placement follows the one before it, by object and then by section.
@@ -23,8 +21,8 @@ fn follows(before: Option<Placement>, placement: &Placement) -> bool
 }
 
 /// Whether the section of a placement is there.
-fn is_there<C: ElfClass>(files: &[File<'_, C>], placement: &Placement) -> bool
-    ensures { result ≡ Rattle.gdb_tables.specs.Misplaced.is_there C.class (slice_get (file_bytes files.now) placement.now.object) placement.now.section }
+fn is_there(files: &[AnyFile<'_>], placement: &Placement) -> bool
+    ensures { result ≡ Rattle.gdb_tables.specs.Misplaced.is_there (slice_get (file_bytes (all_parsed files.now)) placement.now.object) placement.now.section }
 {
     match files.get(placement.object) {
         Some(file) => placement.section < file.num_sections(),
@@ -33,12 +31,8 @@ fn is_there<C: ElfClass>(files: &[File<'_, C>], placement: &Placement) -> bool
 }
 
 /// Whether a placement may follow the one before it.
-fn is_well_placed<C: ElfClass>(
-    files: &[File<'_, C>],
-    before: Option<Placement>,
-    placement: &Placement,
-) -> bool
-    ensures { result ≡ Rattle.gdb_tables.specs.Misplaced.is_well_placed C.class (file_bytes files.now) (before, placement.now) }
+fn is_well_placed(files: &[AnyFile<'_>], before: Option<Placement>, placement: &Placement) -> bool
+    ensures { result ≡ Rattle.gdb_tables.specs.Misplaced.is_well_placed (file_bytes (all_parsed files.now)) (before, placement.now) }
 {
     follows(before, placement)
         && is_there(files, placement)
@@ -48,12 +42,9 @@ fn is_well_placed<C: ElfClass>(
 /// The first placement, by its index from 0, that is not as an index asks: it is not above the one before it, by
 /// object and then by section, or its object or its section is not there, or its end does not fit 64 bits. None
 /// where all are.
-pub fn first_misplaced<C: ElfClass>(
-    files: &[File<'_, C>],
-    placements: &[Placement],
-) -> Option<usize>
-    ensures first { result ≡ misplaced C.class (file_bytes files.now) placements.now }
-    ensures none { result ≡ None → ArePlacedIn C.class (file_bytes files.now) placements.now }
+pub fn first_misplaced(files: &[AnyFile<'_>], placements: &[Placement]) -> Option<usize>
+    ensures first { result ≡ misplaced (file_bytes (all_parsed files.now)) placements.now }
+    ensures none { result ≡ None → ArePlacedIn (file_bytes (all_parsed files.now)) placements.now }
 {
     let mut before = None;
     for (index, placement) in placements.iter().enumerate() {
@@ -67,5 +58,5 @@ pub fn first_misplaced<C: ElfClass>(
 
 /// Placements in their order, of sections that are there and with ends that fit, have none that is misplaced.
 pub fn placed_are_not_misplaced()
-    ensures { (c : Class) (files : List (List ℕ)) (ps : List Placement_spec) → ArePlacedIn c files ps → misplaced c files ps ≡ None }
+    ensures { (files : List (List ℕ)) (ps : List Placement_spec) → ArePlacedIn files ps → misplaced files ps ≡ None }
 {}

@@ -1,23 +1,45 @@
-//! Names in the order of their first publication, each with what is published of it.
+//! Names in the order of their first publication, each with the elements of its CU vector.
 
-ghost use Rattle.std.specs.Prelude.{◌≡◌, OnOk};
+ghost use Rattle.std.specs.Prelude.{◌≡◌, ◌+◌, ◌^◌, ◌<◌, ◌++◌, map, OnOk};
+ghost use Rattle.std.specs.List.{All};
 ghost use Rattle.gdb_scan.specs.Groups.{shown, add_list};
+ghost use Rattle.gdb_tables.specs.Scans.{mark_word};
 
+use crate::counts::count_of;
+use gdb_index::encode_cu_vector_entry;
+use gdb_scan::{Mark, NameMarks};
 use indexmap::IndexMap;
 use std::alloc::{AllocError, Global};
 
-/// Publishes some values of a name. A new name goes last, and takes the list of them over.
-pub(crate) fn publish_list<'a>(
-    names: &mut IndexMap<&'a [u8], Vec<u32>>,
-    name: &'a [u8],
-    values: Vec<u32>,
-) -> Result<(), AllocError>
-    ensures published { OnOk result (shown names.new.entries ≡ add_list (shown names.old.entries) name.entry.now values.items) }
+/// Pushes the elements of the marks of a name, where the object's first unit has the number `first`.
+fn push_words(words: &mut Vec<u32>, first: u32, marks: &[Mark]) -> Result<(), AllocError>
+    requires { All (λ m. first + m.unit < 2 ^ 24) marks.now }
+    ensures { OnOk result (words.new.items ≡ words.old.items ++ map (mark_word first) marks.now) }
 {
-    match names.get_index_of(&name) {
-        Some(index) => names[index].extend_from_slice(&values)?,
+    for mark in marks {
+        words.push(encode_cu_vector_entry(first + mark.unit as u32, mark.flag))?;
+    }
+    Ok(())
+}
+
+/// Publishes the marks of a name. A new name goes last, and its CU vector is made with room for as many elements as
+/// `counts` has for it.
+pub(crate) fn publish_marks<'a>(
+    names: &mut IndexMap<&'a [u8], Vec<u32>>,
+    alloc: Global,
+    counts: &IndexMap<&'a [u8], usize>,
+    first: u32,
+    named: &NameMarks<'a>,
+) -> Result<(), AllocError>
+    requires { All (λ m. first + m.unit < 2 ^ 24) named.now.marks.items }
+    ensures published { OnOk result (shown names.new.entries ≡ add_list (shown names.old.entries) named.now.name.now (map (mark_word first) named.now.marks.items)) }
+{
+    match names.get_index_of(&named.name) {
+        Some(index) => push_words(&mut names[index], first, &named.marks)?,
         None => {
-            names.insert(name, values)?;
+            let mut words = Vec::with_capacity(alloc, count_of(counts, named.name))?;
+            push_words(&mut words, first, &named.marks)?;
+            names.insert(named.name, words)?;
         }
     }
     Ok(())

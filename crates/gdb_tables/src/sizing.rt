@@ -6,19 +6,19 @@ ghost use Rattle.gdb_index.specs.Size.{IsIndexSize, scan_counts};
 ghost use Rattle.gdb_scan.specs.declared.error.GdbError.{GdbError as GdbError_spec};
 ghost use Rattle.gdb_scan.specs.declared.error.GdbError.TheVariants.{NoMemory};
 ghost use Rattle.gdb_scan.specs.Cause.{IsRefusedFor, IsOnlyMemory};
-ghost use Rattle.gdb_tables.specs.Files.{file_bytes, ArePlacedIn};
+ghost use Rattle.gdb_index_format.specs.Version.{version_number};
+ghost use Rattle.gdb_tables.specs.Files.{all_parsed, file_bytes, ArePlacedIn};
 ghost use Rattle.gdb_tables.specs.Sized.{SizesIndex, IsIndexable, IsSizeCause};
 
 use crate::files::scan_objects;
 use crate::merge::merge_gdb_index_scans;
-use elf_view::File;
-use elf_words::ElfClass;
-use gdb_index::{GdbIndexScanResult, INDEX_VERSION, IndexTooLarge, checked_index_size};
-use gdb_index_format::Placement;
+use elf_view::AnyFile;
+use gdb_index::{GdbIndexScanResult, IndexTooLarge, checked_index_size};
+use gdb_index_format::{IndexVersion, Placement};
 use gdb_scan::GdbError;
 use std::alloc::Global;
 
-/// How many bytes the index of all objects has, with the scan that it is written from: 0 and none exactly where
+/// How many bytes the index of all objects has in a version, with the scan that it is written from: 0 and none exactly where
 /// there is no unit.
 ///
 /// The refusals, in this order: those of `scan_one_object` for the first object that is malformed; `TooManyUnits`
@@ -28,20 +28,21 @@ use std::alloc::Global;
 ///
 /// There are fewer than 2^24 files, each of fewer than 2^39 bytes. The placements ascend by object and section,
 /// name objects and sections that are there, and their ends fit 64 bits.
-pub fn compute_gdb_index_size<'a, C: ElfClass>(
+pub fn compute_gdb_index_size<'a>(
     alloc: Global,
-    files: &[File<'a, C>],
+    files: &[AnyFile<'a>],
     placements: &[Placement],
+    version: IndexVersion,
 ) -> Result<(u32, Option<GdbIndexScanResult<'a>>), GdbError>
     requires few { length files.now < 2 ^ 24 }
-    requires small { All (λ file. length file.bytes < 2 ^ 39) files.now }
-    requires placements { ArePlacedIn C.class (file_bytes files.now) placements.now }
-    ensures size { IfOk result (λ sized. SizesIndex INDEX_VERSION C.class (file_bytes files.now) placements.now sized.0 sized.1) }
-    ensures room { IfOk result (λ sized. IfSome sized.1 (λ scan. IsIndexSize INDEX_VERSION (scan_counts scan) sized.0)) }
-    ensures indexable { OnOk result (IsIndexable INDEX_VERSION C.class (file_bytes files.now) placements.now) }
-    ensures cause { IfErr result (IsSizeCause INDEX_VERSION C.class (file_bytes files.now) placements.now) }
-    ensures exact { (e : GdbError_spec) → IsSizeCause INDEX_VERSION C.class (file_bytes files.now) placements.now e → e ≢ NoMemory → IsRefusedFor result e }
-    ensures complete { IsIndexable INDEX_VERSION C.class (file_bytes files.now) placements.now → IfErr result IsOnlyMemory }
+    requires small { All (λ file. length file.bytes < 2 ^ 39) (all_parsed files.now) }
+    requires placements { ArePlacedIn (file_bytes (all_parsed files.now)) placements.now }
+    ensures size { IfOk result (λ sized. SizesIndex (version_number version) (file_bytes (all_parsed files.now)) placements.now sized.0 sized.1) }
+    ensures room { IfOk result (λ sized. IfSome sized.1 (λ scan. IsIndexSize (version_number version) (scan_counts scan) sized.0)) }
+    ensures indexable { OnOk result (IsIndexable (version_number version) (file_bytes (all_parsed files.now)) placements.now) }
+    ensures cause { IfErr result (IsSizeCause (version_number version) (file_bytes (all_parsed files.now)) placements.now) }
+    ensures exact { (e : GdbError_spec) → IsSizeCause (version_number version) (file_bytes (all_parsed files.now)) placements.now e → e ≢ NoMemory → IsRefusedFor result e }
+    ensures complete { IsIndexable (version_number version) (file_bytes (all_parsed files.now)) placements.now → IfErr result IsOnlyMemory }
 {
     let scans = match scan_objects(alloc, files, placements) {
         Ok(scans) => scans,
@@ -55,7 +56,7 @@ pub fn compute_gdb_index_size<'a, C: ElfClass>(
         return Ok((0, None));
     }
     let counts = merged.counts();
-    match checked_index_size(&counts) {
+    match checked_index_size(&counts, version) {
         Ok(size) => Ok((size, Some(merged))),
         Err(IndexTooLarge(size)) => Err(GdbError::IndexTooLarge(size)),
     }

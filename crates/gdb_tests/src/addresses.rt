@@ -3,14 +3,15 @@
 
 use crate::written::{placed, write_index};
 use elf_format::Architecture;
-use elf_records64::Class64;
-use elf_view::File;
+use elf_view::AnyFile;
 use elf_words::{SHF_ALLOC, SHF_EXECINSTR, SHF_WRITE};
-use gdb_index_format::{AddressEntry, Placement};
+use gdb_index_format::{AddressEntry, IndexVersion, Placement};
 use gdb_tables::first_misplaced;
 use std::alloc::{AllocError, Global};
 use std::test::Fail;
-use test_objects::{ET_REL, object, object_of_two_units, plain};
+use test_objects::{
+    ET_REL, ObjectClass, object, object_of_two_units, object_of_two_units_of, plain,
+};
 
 /// The set of a unit of 64 bytes that publishes two functions and a static variable.
 const NAMES: &[u8] = b"\
@@ -51,6 +52,7 @@ fn entry(low: u64, high: u64, unit: u32) -> AddressEntry {
 fn placed_sections_have_entries(rt: HostRuntime) -> Result<(), Fail> {
     let alloc = rt.alloc();
     let two_units = object_of_two_units(alloc)?;
+    let two_units_32 = object_of_two_units_of(alloc, ObjectClass::Elf32)?;
     let functions = object_of_function_sections(alloc)?;
     let code_of_units = [
         placed(3, 4096, 16),
@@ -78,6 +80,12 @@ fn placed_sections_have_entries(rt: HostRuntime) -> Result<(), Fail> {
             entries_of_units.as_slice(),
         ),
         (
+            two_units_32.as_slice(),
+            code_of_units.as_slice(),
+            128,
+            entries_of_units.as_slice(),
+        ),
+        (
             functions.as_slice(),
             sections.as_slice(),
             211,
@@ -85,7 +93,7 @@ fn placed_sections_have_entries(rt: HostRuntime) -> Result<(), Fail> {
         ),
     ] {
         if bytes.len() < 1 << 39 {
-            let written = write_index(alloc, bytes, placements)?;
+            let written = write_index(alloc, bytes, placements, IndexVersion::V9)?;
             assert_eq!(rt; written.size, size);
             assert_eq!(rt; written.entries.as_slice(), entries);
         }
@@ -96,7 +104,7 @@ fn placed_sections_have_entries(rt: HostRuntime) -> Result<(), Fail> {
 #[test]
 fn misplaced_placements(rt: HostRuntime) -> Result<(), Fail> {
     let bytes = object_of_two_units(rt.alloc())?;
-    let file = File::<Class64>::parse_bytes(&bytes, false).expect(&rt, "an object");
+    let file = AnyFile::parse_bytes(&bytes, false).expect(&rt, "an object");
     let files = [file];
     let elsewhere = Placement {
         object: 1,

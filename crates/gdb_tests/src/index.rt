@@ -5,8 +5,8 @@ ghost use Rattle.gdb_index_format.specs.Example.{index_of_two};
 ghost use Rattle.gdb_index_format.specs.Probe.{probe};
 
 use gdb_tables::{
-    BadIndex, IndexCounts, IndexTooLarge, Steps, checked_index_size, compute_hash_table_slots,
-    encode_cu_vector_entry, gdb_hash, index_size, lookup,
+    BadIndex, IndexCounts, IndexTooLarge, IndexVersion, Steps, checked_index_size,
+    compute_hash_table_slots, encode_cu_vector_entry, gdb_hash, index_size, lookup,
 };
 use std::marker::Brand;
 use std::sync::ledger::{Blank, Ledger};
@@ -25,6 +25,37 @@ pub const ONE_NAME: [u8; 81] = [
     9, 0, 0, 0, 28, 0, 0, 0, 44, 0, 0, 0, 44, 0, 0, 0, 44, 0, 0, 0, 60, 0, 0, 0, 68, 0, 0, 0, 0, 0,
     0, 0, 0, 0, 0, 0, 12, 0, 0, 0, 0, 0, 0, 0, 0, 0, 0, 0, 0, 0, 0, 0, 8, 0, 0, 0, 0, 0, 0, 0, 0,
     0, 0, 0, 0, 0, 0, 0, 1, 0, 0, 0, 0, 0, 0, 48, 109, 97, 105, 110, 0,
+];
+
+/// The header of an index of version 7, which is not known.
+const VERSION_7: [u8; 28] = [
+    7, 0, 0, 0, 0, 0, 0, 0, 0, 0, 0, 0, 0, 0, 0, 0, 0, 0, 0, 0, 0, 0, 0, 0, 0, 0, 0, 0,
+];
+
+/// The header of an index of version 8 whose offsets are 0.
+const NO_OFFSETS: [u8; 24] = [
+    8, 0, 0, 0, 0, 0, 0, 0, 0, 0, 0, 0, 0, 0, 0, 0, 0, 0, 0, 0, 0, 0, 0, 0,
+];
+
+/// An index of one unit, in version 8.
+pub const NO_NAME_8: [u8; 40] = [
+    8, 0, 0, 0, 24, 0, 0, 0, 40, 0, 0, 0, 40, 0, 0, 0, 40, 0, 0, 0, 40, 0, 0, 0, 0, 0, 0, 0, 0, 0,
+    0, 0, 12, 0, 0, 0, 0, 0, 0, 0,
+];
+
+/// An index of one unit and the name `main`, in version 8.
+pub const ONE_NAME_8: [u8; 69] = [
+    8, 0, 0, 0, 24, 0, 0, 0, 40, 0, 0, 0, 40, 0, 0, 0, 40, 0, 0, 0, 56, 0, 0, 0, 0, 0, 0, 0, 0, 0,
+    0, 0, 12, 0, 0, 0, 0, 0, 0, 0, 0, 0, 0, 0, 0, 0, 0, 0, 8, 0, 0, 0, 0, 0, 0, 0, 1, 0, 0, 0, 0,
+    0, 0, 48, 109, 97, 105, 110, 0,
+];
+
+/// An index of one unit and the names `r` and `a`, in the order of their buckets.
+pub const TWO_BUCKETS: [u8; 104] = [
+    9, 0, 0, 0, 28, 0, 0, 0, 44, 0, 0, 0, 44, 0, 0, 0, 44, 0, 0, 0, 76, 0, 0, 0, 84, 0, 0, 0, 0, 0,
+    0, 0, 0, 0, 0, 0, 12, 0, 0, 0, 0, 0, 0, 0, 18, 0, 0, 0, 8, 0, 0, 0, 16, 0, 0, 0, 0, 0, 0, 0, 0,
+    0, 0, 0, 0, 0, 0, 0, 0, 0, 0, 0, 0, 0, 0, 0, 0, 0, 0, 0, 0, 0, 0, 0, 1, 0, 0, 0, 0, 0, 0, 176,
+    1, 0, 0, 0, 0, 0, 0, 48, 114, 0, 97, 0,
 ];
 
 /// An index of one unit and the names `main` and `MAIN`, which have one hash.
@@ -70,14 +101,22 @@ fn sizes_have_a_limit(rt: HostRuntime) {
         words: 0,
         name_bytes: 4_294_967_243,
     };
-    assert_eq!(rt; checked_index_size(&counts), Ok(4_294_967_295));
+    assert_eq!(rt;
+        checked_index_size(&counts, IndexVersion::V9),
+        Ok(4_294_967_295)
+    );
     counts.name_bytes = 4_294_967_244;
     assert_eq!(rt;
-        checked_index_size(&counts),
+        checked_index_size(&counts, IndexVersion::V9),
+        Err(IndexTooLarge(4_294_967_296))
+    );
+    counts.name_bytes = 4_294_967_256;
+    assert_eq!(rt;
+        checked_index_size(&counts, IndexVersion::V8),
         Err(IndexTooLarge(4_294_967_296))
     );
     counts.units = 0;
-    assert_eq!(rt; index_size(&counts), 0);
+    assert_eq!(rt; index_size(&counts, IndexVersion::V9), 0);
 }
 
 /// Returns the number of elements that a lookup finds, and the last of them.
@@ -111,13 +150,16 @@ fn probes_take_steps()
 
 #[test]
 fn lookups_find_names(rt: HostRuntime) {
-    let rows: [(&[u8], &[u8], Option<(usize, u32)>); 6] = [
+    let rows: [(&[u8], &[u8], Option<(usize, u32)>); 9] = [
         (&NO_NAME, b"main", None),
         (&ONE_NAME, b"main", Some((1, FUNCTION))),
         (&ONE_NAME, b"m", None),
         (&TWO_NAMES, b"MAIN", Some((1, FUNCTION))),
         (&TWO_NAMES, b"foo", None),
         (&TWO_WORDS, b"main", Some((2, FUNCTION))),
+        (&ONE_NAME_8, b"main", Some((1, FUNCTION))),
+        (&ONE_NAME_8, b"m", None),
+        (&VERSION_7[..24], b"main", None),
     ];
     for (index, name, found) in rows {
         assert_eq!(rt; find::<Brand>(index, name, Blank::new(1)), Ok(found));
@@ -138,5 +180,11 @@ fn malformed_indexes_are_refused(rt: HostRuntime) {
         let mut index = ONE_NAME;
         index[at] = byte;
         assert_eq!(rt; find::<Brand>(&index, b"main", Blank::new(1)), Err(fault));
+    }
+    for (index, fault) in [
+        (VERSION_7.as_slice(), BadIndex::Version),
+        (NO_OFFSETS.as_slice(), BadIndex::Offsets),
+    ] {
+        assert_eq!(rt; find::<Brand>(index, b"main", Blank::new(1)), Err(fault));
     }
 }

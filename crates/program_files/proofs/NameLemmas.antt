@@ -1,9 +1,10 @@
 -- The names that were read so far, and those read for a result.
 use Rattle.std.proofs.Common.{◌≡◌, ℕ, ◌+◌, ◌-◌, ◌≤◌, List, [], ◌∷◌, ◌++◌, length, take, Option, Some, None, Result, Ok, Err, IsErrAnd, IsSome, refl, sym, ap, subst, ◌∙◌, arith, length-append, append_assoc}
 use Rattle.std.proofs.lemmas.Bool.{false≢true}
-use Rattle.std.proofs.lemmas.List.{append-nil}
+use Rattle.std.proofs.lemmas.List.{append-nil, take_all}
 use Rattle.std.proofs.Math.Seq.{take-append_seam, take-append-add}
-use Rattle.program_text.specs.Command.{Tables, first_object}
+use Rattle.gdb_index_format.specs.declared.version.IndexVersion.{IndexVersion}
+use Rattle.program_text.specs.Tables.{Tables, first_object, option_len}
 use Rattle.program_files.specs.declared.error.ReadError.{ReadError}
 use Rattle.program_files.specs.declared.error.ReadError.TheVariants.{Unread, TooLong, NoMemory}
 use Rattle.program_files.specs.Reading.{listed, file_names, files_through, HasRead, HasReadObjects}
@@ -63,22 +64,28 @@ front_names tables old now now2 then xs one two more =
     ∙ append_assoc old (tables.layout ∷ []) (listed tables.sframe ++ xs)
 
 -- the layout alone was read
-one_name : (layout : List ℕ) (sframe : Option (List ℕ)) (objects old : List (List ℕ)) → old ++ take (files_through sframe 2) (layout ∷ (listed sframe ++ objects)) ≡ old ++ layout ∷ []
-one_name layout None objects old = ap (λ (l : List (List ℕ)). old ++ l) (take-append_seam (layout ∷ []) objects)
-one_name layout (Some file) objects old = ap (λ (l : List (List ℕ)). old ++ l) (take-append_seam (layout ∷ []) (file ∷ objects))
+one_name : (tables : Tables) (old : List (List ℕ)) → old ++ take (files_through tables 2) (file_names tables) ≡ old ++ tables.layout ∷ []
+one_name tables old =
+    let n : files_through tables 2 ≡ 1 = omega arith in
+    ap (λ m. old ++ take m (file_names tables)) n ∙ ap (λ (l : List (List ℕ)). old ++ l) (take-append_seam (tables.layout ∷ []) (listed tables.sframe ++ tables.objects))
 
 pub read_layout : {T : Type 0} (tables : Tables) (old now : List (List ℕ)) (error : ReadError) (result : Result T ReadError) → now ≡ old ++ tables.layout ∷ [] → ((k : ℕ) → error ≡ Unread k → k ≡ 2) → ((k : ℕ) → error ≡ TooLong k → k ≡ 2) → IsErrAnd result (λ e. e ≡ error) → HasRead tables old now result
 read_layout tables old now error (Ok value) one unread too_long is = absurd is
 read_layout tables old now error (Err (Unread k)) one unread too_long is =
-    one ∙ sym (one_name tables.layout tables.sframe tables.objects old) ∙ ap (λ n. old ++ take (files_through tables.sframe n) (file_names tables)) (sym (unread k (sym is)))
+    one ∙ sym (one_name tables old) ∙ ap (λ n. old ++ take (files_through tables n) (file_names tables)) (sym (unread k (sym is)))
 read_layout tables old now error (Err (TooLong k)) one unread too_long is =
-    one ∙ sym (one_name tables.layout tables.sframe tables.objects old) ∙ ap (λ n. old ++ take (files_through tables.sframe n) (file_names tables)) (sym (too_long k (sym is)))
+    one ∙ sym (one_name tables old) ∙ ap (λ n. old ++ take (files_through tables n) (file_names tables)) (sym (too_long k (sym is)))
 read_layout tables old now error (Err NoMemory) one unread too_long is = (1, one ∙ ap (λ (l : List (List ℕ)). old ++ l) (sym (take-append_seam (tables.layout ∷ []) (listed tables.sframe ++ tables.objects))))
 
 -- the layout and the SFrame file were read
-two_names : (layout : List ℕ) (sframe : Option (List ℕ)) (objects old : List (List ℕ)) → IsSome sframe → old ++ take (files_through sframe 4) (layout ∷ (listed sframe ++ objects)) ≡ old ++ (layout ∷ listed sframe)
-two_names layout None objects old some = absurd (false≢true some)
-two_names layout (Some file) objects old some = ap (λ (l : List (List ℕ)). old ++ l) (take-append_seam (layout ∷ file ∷ []) objects)
+through_frames : (layout : List ℕ) (sframe : Option (List ℕ)) (version : Option IndexVersion) → IsSome sframe → length (layout ∷ take (4 - 3) (listed sframe)) + (4 + 1 - first_object sframe version) ≡ length (layout ∷ listed sframe)
+through_frames layout None version some = absurd (false≢true some)
+through_frames layout (Some file) version some = omega arith
+
+two_names : (tables : Tables) (old : List (List ℕ)) → IsSome tables.sframe → old ++ take (files_through tables 4) (file_names tables) ≡ old ++ (tables.layout ∷ listed tables.sframe)
+two_names tables old some =
+    ap (λ m. old ++ take m (file_names tables)) (through_frames tables.layout tables.sframe tables.version some)
+    ∙ ap (λ (l : List (List ℕ)). old ++ l) (take-append_seam (tables.layout ∷ listed tables.sframe) tables.objects)
 
 both : (tables : Tables) (old now then : List (List ℕ)) → now ≡ old ++ tables.layout ∷ [] → then ≡ now ++ listed tables.sframe → then ≡ old ++ (tables.layout ∷ listed tables.sframe)
 both tables old now then one two =
@@ -88,26 +95,30 @@ pub read_both : {T : Type 0} (tables : Tables) (old now then : List (List ℕ)) 
 read_both tables old now then error (Ok value) one two unread too_long is = absurd is
 read_both tables old now then error (Err (Unread k)) one two unread too_long is =
     let at = unread k (sym is) in
-    both tables old now then one two ∙ sym (two_names tables.layout tables.sframe tables.objects old at.1) ∙ ap (λ n. old ++ take (files_through tables.sframe n) (file_names tables)) (sym at.0)
+    both tables old now then one two ∙ sym (two_names tables old at.1) ∙ ap (λ n. old ++ take (files_through tables n) (file_names tables)) (sym at.0)
 read_both tables old now then error (Err (TooLong k)) one two unread too_long is =
     let at = too_long k (sym is) in
-    both tables old now then one two ∙ sym (two_names tables.layout tables.sframe tables.objects old at.1) ∙ ap (λ n. old ++ take (files_through tables.sframe n) (file_names tables)) (sym at.0)
+    both tables old now then one two ∙ sym (two_names tables old at.1) ∙ ap (λ n. old ++ take (files_through tables n) (file_names tables)) (sym at.0)
 read_both tables old now then error (Err NoMemory) one two unread too_long is =
     (length (tables.layout ∷ listed tables.sframe), both tables old now then one two ∙ ap (λ (l : List (List ℕ)). old ++ l) (sym (take-append_seam (tables.layout ∷ listed tables.sframe) tables.objects)))
 
 -- the argument at an index names an object, and so many files are named up to it
-through : (layout : List ℕ) (sframe : Option (List ℕ)) (k : ℕ) → first_object sframe ≤ k → files_through sframe k ≡ length (layout ∷ listed sframe) + (k + 1 - first_object sframe)
-through layout None k low = let at : 3 ≤ k = low in let is : k - 1 ≡ 1 + (k + 1 - 3) = omega (arith, at) in is
-through layout (Some file) k low = let at : 5 ≤ k = low in let is : 1 + (k - 3) ≡ 2 + (k + 1 - 5) = omega (arith, at) in is
+front_within : (sframe : Option (List ℕ)) (version : Option IndexVersion) (k : ℕ) → first_object sframe version ≤ k → length (listed sframe) ≤ k - 3
+front_within None version k low = omega arith
+front_within (Some file) version k low = let at : 3 + 2 + option_len version ≤ k = low in omega (arith, at)
 
-some_objects : (tables : Tables) (first : ℕ) (old now now2 then : List (List ℕ)) (k : ℕ) → first ≡ first_object tables.sframe → first ≤ k → now ≡ old ++ tables.layout ∷ [] → now2 ≡ now ++ listed tables.sframe → then ≡ now2 ++ take (k + 1 - first) tables.objects → then ≡ old ++ take (files_through tables.sframe k) (file_names tables)
+through : (tables : Tables) (k : ℕ) → first_object tables.sframe tables.version ≤ k → files_through tables k ≡ length (tables.layout ∷ listed tables.sframe) + (k + 1 - first_object tables.sframe tables.version)
+through tables k low =
+    ap (λ (l : List (List ℕ)). length (tables.layout ∷ l) + (k + 1 - first_object tables.sframe tables.version)) (take_all (k - 3) (listed tables.sframe) (front_within tables.sframe tables.version k low))
+
+some_objects : (tables : Tables) (first : ℕ) (old now now2 then : List (List ℕ)) (k : ℕ) → first ≡ first_object tables.sframe tables.version → first ≤ k → now ≡ old ++ tables.layout ∷ [] → now2 ≡ now ++ listed tables.sframe → then ≡ now2 ++ take (k + 1 - first) tables.objects → then ≡ old ++ take (files_through tables k) (file_names tables)
 some_objects tables first old now now2 then k first-is low one two more =
     front_names tables old now now2 then (take (k + 1 - first) tables.objects) one two more
     ∙ ap (λ n. old ++ (tables.layout ∷ (listed tables.sframe ++ take (k + 1 - n) tables.objects))) first-is
-    ∙ ap (λ (l : List (List ℕ)). old ++ l) (sym (take-append-add (tables.layout ∷ listed tables.sframe) tables.objects (k + 1 - first_object tables.sframe)))
-    ∙ ap (λ n. old ++ take n (file_names tables)) (sym (through tables.layout tables.sframe k (subst (λ n. n ≤ k) first-is low)))
+    ∙ ap (λ (l : List (List ℕ)). old ++ l) (sym (take-append-add (tables.layout ∷ listed tables.sframe) tables.objects (k + 1 - first_object tables.sframe tables.version)))
+    ∙ ap (λ n. old ++ take n (file_names tables)) (sym (through tables k (subst (λ n. n ≤ k) first-is low)))
 
-pub read_some : {T : Type 0} (U : Type 0) (tables : Tables) (first : ℕ) (old now now2 then : List (List ℕ)) (error : ReadError) (result : Result T ReadError) → first ≡ first_object tables.sframe → now ≡ old ++ tables.layout ∷ [] → now2 ≡ now ++ listed tables.sframe → HasReadObjects first tables.objects now2 then (let r : Result U ReadError = Err error in r) → ((k : ℕ) → error ≡ Unread k → first ≤ k) → ((k : ℕ) → error ≡ TooLong k → first ≤ k) → IsErrAnd result (λ e. e ≡ error) → HasRead tables old then result
+pub read_some : {T : Type 0} (U : Type 0) (tables : Tables) (first : ℕ) (old now now2 then : List (List ℕ)) (error : ReadError) (result : Result T ReadError) → first ≡ first_object tables.sframe tables.version → now ≡ old ++ tables.layout ∷ [] → now2 ≡ now ++ listed tables.sframe → HasReadObjects first tables.objects now2 then (let r : Result U ReadError = Err error in r) → ((k : ℕ) → error ≡ Unread k → first ≤ k) → ((k : ℕ) → error ≡ TooLong k → first ≤ k) → IsErrAnd result (λ e. e ≡ error) → HasRead tables old then result
 read_some U tables first old now now2 then error (Ok value) first-is one two more unread too_long is = absurd is
 read_some U tables first old now now2 then error (Err (Unread k)) first-is one two more unread too_long is =
     let P : ReadError → Type 0 = λ e. HasReadObjects first tables.objects now2 then (let r : Result U ReadError = Err e in r) in

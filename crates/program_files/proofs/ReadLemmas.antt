@@ -1,7 +1,7 @@
 -- How the parts of a reading settle the whole: where the files are told, the first error of a part is that of all.
 use Rattle.std.proofs.Common.{◌≡◌, ℕ, ◌+◌, ◌≤◌, ◌<◌, List, length, map, Option, Some, None, IfSome, IsSome, Result, Ok, Err, IsErrAnd, option_map, sym, ap, subst, ◌∙◌, arith, inl, inr, Bor}
 use Rattle.program_io.specs.Contents.{Contents, file_of}
-use Rattle.program_text.specs.Command.{Tables, NamesFile, first_object}
+use Rattle.program_text.specs.Tables.{Tables, NamesTablesFile, first_object}
 use Rattle.program_files.specs.declared.error.ReadError.{ReadError}
 use Rattle.elf_format.specs.declared.index.Span.{Span}
 use Rattle.elf_format.specs.Span.{AreInside, span_bytes}
@@ -37,26 +37,26 @@ sframe_error held held_then tables layout error same layout_is sframe_is = at he
     at : (held : Contents) → IfSome held (λ files. within 2 file_limit (file_of files tables.layout) ≡ Ok layout) → IfSome held (λ files. sframe_of files tables.sframe ≡ Err error) → IfSome held (λ files. read_of files tables ≡ Err error)
     at None layout_is sframe_is = tt
     at (Some files) layout_is sframe_is =
-        ap (λ (r : Result (List ℕ) ReadError). texts_of r (sframe_of files tables.sframe) (object_texts files (first_object tables.sframe) file_limit tables.objects)) layout_is
-        ∙ ap (λ (r : Result (List ℕ) ReadError). texts_of (Ok layout) r (object_texts files (first_object tables.sframe) file_limit tables.objects)) sframe_is
+        ap (λ (r : Result (List ℕ) ReadError). texts_of r (sframe_of files tables.sframe) (object_texts files (first_object tables.sframe tables.version) file_limit tables.objects)) layout_is
+        ∙ ap (λ (r : Result (List ℕ) ReadError). texts_of (Ok layout) r (object_texts files (first_object tables.sframe tables.version) file_limit tables.objects)) sframe_is
 
 -- what the objects give settles the rest, where the layout and the SFrame bytes were read
-pub objects_settle : (held held_then held_last : Contents) (tables : Tables) (first : ℕ) (layout sframe : List ℕ) (objects : Result (List (List ℕ)) ReadError) → held_then ≡ held → held_last ≡ held_then → first ≡ first_object tables.sframe → IfSome held (λ files. within 2 file_limit (file_of files tables.layout) ≡ Ok layout) → IfSome held_then (λ files. sframe_of files tables.sframe ≡ Ok sframe) → IfSome held_last (λ files. object_texts files first file_limit tables.objects ≡ objects) → IfSome held (λ files. read_of files tables ≡ texts_of (Ok layout) (Ok sframe) objects)
+pub objects_settle : (held held_then held_last : Contents) (tables : Tables) (first : ℕ) (layout sframe : List ℕ) (objects : Result (List (List ℕ)) ReadError) → held_then ≡ held → held_last ≡ held_then → first ≡ first_object tables.sframe tables.version → IfSome held (λ files. within 2 file_limit (file_of files tables.layout) ≡ Ok layout) → IfSome held_then (λ files. sframe_of files tables.sframe ≡ Ok sframe) → IfSome held_last (λ files. object_texts files first file_limit tables.objects ≡ objects) → IfSome held (λ files. read_of files tables ≡ texts_of (Ok layout) (Ok sframe) objects)
 objects_settle held held_then held_last tables first layout sframe objects same same_last first-is layout_is sframe_is objects_is =
     at held layout_is (told_then held held_then _ same sframe_is) (told_then held held_last _ (same_last ∙ same) objects_is)
   where
     at : (held : Contents) → IfSome held (λ files. within 2 file_limit (file_of files tables.layout) ≡ Ok layout) → IfSome held (λ files. sframe_of files tables.sframe ≡ Ok sframe) → IfSome held (λ files. object_texts files first file_limit tables.objects ≡ objects) → IfSome held (λ files. read_of files tables ≡ texts_of (Ok layout) (Ok sframe) objects)
     at None layout_is sframe_is objects_is = tt
     at (Some files) layout_is sframe_is objects_is =
-        ap (λ (r : Result (List ℕ) ReadError). texts_of r (sframe_of files tables.sframe) (object_texts files (first_object tables.sframe) file_limit tables.objects)) layout_is
-        ∙ ap (λ (r : Result (List ℕ) ReadError). texts_of (Ok layout) r (object_texts files (first_object tables.sframe) file_limit tables.objects)) sframe_is
+        ap (λ (r : Result (List ℕ) ReadError). texts_of r (sframe_of files tables.sframe) (object_texts files (first_object tables.sframe tables.version) file_limit tables.objects)) layout_is
+        ∙ ap (λ (r : Result (List ℕ) ReadError). texts_of (Ok layout) r (object_texts files (first_object tables.sframe tables.version) file_limit tables.objects)) sframe_is
         ∙ ap (λ n. texts_of (Ok layout) (Ok sframe) (object_texts files n file_limit tables.objects)) (sym first-is)
         ∙ ap (λ (r : Result (List (List ℕ)) ReadError). texts_of (Ok layout) (Ok sframe) r) objects_is
 
-pub sframe_index : (tables : Tables) (index : ℕ) → index ≡ 4 → IsSome tables.sframe → NamesFile tables index
+pub sframe_index : (tables : Tables) (index : ℕ) → index ≡ 4 → IsSome tables.sframe → NamesTablesFile tables index
 sframe_index tables index is some = inr (inl (is, some))
 
-pub object_index : (tables : Tables) (first count index : ℕ) → first ≡ first_object tables.sframe → length tables.objects ≡ count → first ≤ index → index < first + count → NamesFile tables index
+pub object_index : (tables : Tables) (first count index : ℕ) → first ≡ first_object tables.sframe tables.version → length tables.objects ≡ count → first ≤ index → index < first + count → NamesTablesFile tables index
 object_index tables first count index first-is count-is low high = inr (inr (omega (arith, first-is), omega (arith, first-is, count-is)))
 
 -- what is told of files is told in equal words
@@ -71,7 +71,7 @@ texts_are held first names buffer spans read =
     ∙ ap (λ (l : List Span). map (span_bytes (joined read.texts)) l) read.spans_are
     ∙ texts_again read.texts
 
-pub all_read : (held held_then held_last : Contents) (tables : Tables) (first : ℕ) (layout bytes sframe buffer : List ℕ) (spans : List Span) → held_then ≡ held → held_last ≡ held_then → first ≡ first_object tables.sframe → layout ≡ bytes → IfSome held (λ files. within 2 file_limit (file_of files tables.layout) ≡ Ok bytes) → IfSome held_then (λ files. sframe_of files tables.sframe ≡ Ok sframe) → AreObjectsRead held_last first tables.objects buffer spans → IfSome held (λ files. read_of files tables ≡ Ok (record { layout = layout; sframe = sframe; objects = map (span_bytes buffer) spans }))
+pub all_read : (held held_then held_last : Contents) (tables : Tables) (first : ℕ) (layout bytes sframe buffer : List ℕ) (spans : List Span) → held_then ≡ held → held_last ≡ held_then → first ≡ first_object tables.sframe tables.version → layout ≡ bytes → IfSome held (λ files. within 2 file_limit (file_of files tables.layout) ≡ Ok bytes) → IfSome held_then (λ files. sframe_of files tables.sframe ≡ Ok sframe) → AreObjectsRead held_last first tables.objects buffer spans → IfSome held (λ files. read_of files tables ≡ Ok (record { layout = layout; sframe = sframe; objects = map (span_bytes buffer) spans }))
 all_read held held_then held_last tables first layout bytes sframe buffer spans same same_last first-is layout-is layout_is sframe_is read =
     told_as held tables _ _
     (ap (λ (l : List ℕ). let t : Result Texts ReadError = Ok (record { layout = l; sframe = sframe; objects = read.texts }) in t) (sym layout-is)

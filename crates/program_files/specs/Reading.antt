@@ -2,7 +2,10 @@
 use Rattle.std.specs.Prelude.{◌≡◌, ℕ, ◌+◌, ◌-◌, ◌^◌, ◌≤◌, List, [], ◌∷◌, ◌++◌, length, take, IfSome, map, if◌then◌else◌, nat_lt, Option, Some, None, Result, Ok, Err}
 use Rattle.program_io.specs.Contents.{Contents, file_of}
 use Rattle.program_io.specs.Counting.{RoseBy, counted}
-use Rattle.program_text.specs.Command.{Tables, first_object}
+use Rattle.std.specs.Result.{result_err}
+use Rattle.program_text.specs.Command.{Request, for_tables, for_query}
+use Rattle.program_text.specs.Query.{Query, file_asked}
+use Rattle.program_text.specs.Tables.{Tables, first_object}
 use Rattle.elf_format.specs.declared.index.Span.{Span}
 use Rattle.elf_format.specs.Span.{span_bytes}
 use Rattle.program_files.specs.Joined.{joined, spans_from}
@@ -60,7 +63,7 @@ texts_of (Ok layout) (Ok sframe) (Ok objects) = Ok (record { layout = layout; sf
 -- the files of a command, or the first of them that is not held or is too long
 abbrev pub read_of : Held → Tables → Result Texts ReadError
 read_of held tables =
-    texts_of (within 2 file_limit (file_of held tables.layout)) (sframe_of held tables.sframe) (object_texts held (first_object tables.sframe) file_limit tables.objects)
+    texts_of (within 2 file_limit (file_of held tables.layout)) (sframe_of held tables.sframe) (object_texts held (first_object tables.sframe tables.version) file_limit tables.objects)
 
 -- the files that were read
 abbrev pub texts_read : FilesRead → Texts
@@ -76,15 +79,33 @@ abbrev pub file_names : Tables → List (List ℕ)
 file_names tables = tables.layout ∷ (listed tables.sframe ++ tables.objects)
 
 -- how many files the arguments up to this index name, where the argument at the index names one
-abbrev pub files_through : Option (List ℕ) → ℕ → ℕ
-files_through None index = index - 1
-files_through (Some file) index = 1 + (index - 3)
+abbrev pub files_through : Tables → ℕ → ℕ
+files_through tables index = length (tables.layout ∷ take (index - 3) (listed tables.sframe)) + (index + 1 - first_object tables.sframe tables.version)
+
+-- the names of the files of any command, in the order of its arguments
+abbrev pub names_of : Request → List (List ℕ)
+names_of (for_tables command) = file_names command
+names_of (for_query query) = file_asked query ∷ []
+
+-- how many files the arguments up to this index name, where the argument at the index names one
+abbrev pub names_through : Request → ℕ → ℕ
+names_through (for_tables command) index = files_through command index
+names_through (for_query query) index = 1
+
+-- the file of a query: its bytes, where it is held and no longer than a file may be
+abbrev pub asked_file : Held → Query → Result (List ℕ) ReadError
+asked_file held query = within 1 file_limit (file_of held (file_asked query))
+
+-- why the files of a command are not read, where they are known
+abbrev pub reading_fault : Held → Request → Option ReadError
+reading_fault held (for_tables command) = result_err (read_of held command)
+reading_fault held (for_query query) = result_err (asked_file held query)
 
 -- the names read for a result: all of them, those up to the file that was refused, or, where memory ran out, some of the first
 abbrev pub HasRead : {T : Type 0} → Tables → List (List ℕ) → List (List ℕ) → Result T ReadError → Type 0
 HasRead tables old new (Ok value) = new ≡ old ++ file_names tables
-HasRead tables old new (Err (Unread index)) = new ≡ old ++ take (files_through tables.sframe index) (file_names tables)
-HasRead tables old new (Err (TooLong index)) = new ≡ old ++ take (files_through tables.sframe index) (file_names tables)
+HasRead tables old new (Err (Unread index)) = new ≡ old ++ take (files_through tables index) (file_names tables)
+HasRead tables old new (Err (TooLong index)) = new ≡ old ++ take (files_through tables index) (file_names tables)
 HasRead tables old new (Err NoMemory) = (n : ℕ) × (new ≡ old ++ take n (file_names tables))
 
 -- the same of objects, where the argument at index `first` names the first of them

@@ -10,4 +10,4 @@ mod reading;
 
 pub use error::ReadError;
 pub use files_read::FilesRead;
-pub use reading::read_files;
+pub use reading::{read_files, read_named};

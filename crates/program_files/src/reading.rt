@@ -1,17 +1,18 @@
-//! Reading files one after another: the layout, the SFrame bytes, then each object onto the end of one buffer.
+//! Reading files one after another: for `tables` the layout, the SFrame bytes, then each object onto the end of one buffer.
 //!
 //! What is left of the limit for an object is 2^30 less the bytes of the objects before it.
 ghost use Rattle.std.specs.Prelude.{◌≡◌, ◌+◌, ◌-◌, ◌<◌, ◌≤◌, ◌++◌, ◌∷◌, ◌^◌, ℕ, List, [], IsTrue, IsSome, IfSome, IfOk, OnOk, length, vec_len, option_map};
 ghost use Rattle.elf_format.specs.Span.{AreInside};
 ghost use Rattle.program_io.specs.Contents.{file_of};
 ghost use Rattle.program_io.specs.Counting.{Rose, RoseBy};
-ghost use Rattle.program_text.specs.Command.{tables_of, arguments_of, NamesFile, object_limit};
+ghost use Rattle.program_text.specs.Arguments.{arguments_of};
+ghost use Rattle.program_text.specs.Tables.{tables_of, NamesTablesFile, object_limit};
 ghost use Rattle.program_files.specs.Reading.{file_limit, within, sframe_of, object_texts, read_of, texts_read, IsObjectRead, AreObjectsRead, listed, HasRead, HasReadObjects, faults_after_reading};
 
 use crate::{FilesRead, ReadError};
 use elf_format::Span;
 use program_io::{FileFault, Files};
-use program_text::Command;
+use program_text::TablesCommand;
 use std::alloc::Global;
 
 /// How many bytes a file may have, and all objects together.
@@ -41,6 +42,34 @@ fn read_file<F: Files>(
         Err(FileFault::Failed) => Err(ReadError::Unread(index)),
         Err(FileFault::TooLong) => Err(ReadError::TooLong(index)),
         Err(FileFault::NoMemory) => Err(ReadError::NoMemory),
+    }
+}
+
+/// Reads the file of at most 2^30 bytes that the argument at an index names.
+///
+/// `Unread`: the file was not read. `TooLong`: it is longer.
+pub fn read_named<F: Files>(
+    alloc: Global,
+    files: &mut F,
+    index: usize,
+    name: &str,
+) -> Result<Vec<u8>, ReadError>
+    ensures held { F.held files.new ≡ F.held files.old }
+    ensures steady { F.steady files.new ≡ F.steady files.old }
+    ensures faults { F.faults files.old ≤ F.faults files.new }
+    ensures taken { F.taken files.old ≤ F.taken files.new }
+    ensures reads { F.reads files.new ≡ F.reads files.old ++ name.now ∷ [] }
+    ensures counted { F.faults files.new ≡ faults_after_reading result (F.faults files.old) }
+
+    ensures small { IfOk result (λ bytes. vec_len bytes ≤ file_limit) }
+    ensures known { IfOk result (λ bytes. IfSome (F.held files.old) (λ held. within index file_limit (file_of held name.now) ≡ Ok bytes.items)) }
+    ensures unread { (k : ℕ) → result ≡ Err (ReadError.Unread k) → (k ≡ index) × Rose (F.faults files.old) (F.faults files.new) × (IsTrue (F.steady files.old) → IfSome (F.held files.old) (λ held. within index file_limit (file_of held name.now) ≡ Err (ReadError.Unread index))) }
+    ensures too_long { (k : ℕ) → result ≡ Err (ReadError.TooLong k) → (k ≡ index) × RoseBy (file_limit + 1) (F.taken files.old) (F.taken files.new) × IfSome (F.held files.old) (λ held. within index file_limit (file_of held name.now) ≡ Err (ReadError.TooLong index)) }
+{
+    let mut bytes = Vec::new(alloc);
+    match read_file(files, index, name, &mut bytes, FILE_LIMIT) {
+        Ok(()) => Ok(bytes),
+        Err(error) => Err(error),
     }
 }
 
@@ -136,7 +165,7 @@ fn read_sframe<F: Files>(
 /// `Unread`: the file of the argument at this index was not read. `TooLong`: it is longer than the limit left for it.
 pub fn read_files<F: Files>(
     alloc: Global,
-    command: &Command<'_>,
+    command: &TablesCommand<'_>,
     files: &mut F,
 ) -> Result<FilesRead, ReadError>
     requires { length command.now.objects.now ≤ object_limit }
@@ -153,8 +182,8 @@ pub fn read_files<F: Files>(
     ensures inside { IfOk result (λ read. AreInside (length read.buffer.items) read.objects.items) }
     ensures small { IfOk result (λ read. (vec_len read.layout ≤ file_limit) × (vec_len read.sframe ≤ file_limit) × (vec_len read.buffer ≤ file_limit)) }
 
-    ensures unread { (k : ℕ) → result ≡ Err (ReadError.Unread k) → NamesFile (tables_of command.now) k × Rose (F.faults files.old) (F.faults files.new) }
-    ensures too_long { (k : ℕ) → result ≡ Err (ReadError.TooLong k) → NamesFile (tables_of command.now) k × RoseBy (file_limit + 1) (F.taken files.old) (F.taken files.new) }
+    ensures unread { (k : ℕ) → result ≡ Err (ReadError.Unread k) → NamesTablesFile (tables_of command.now) k × Rose (F.faults files.old) (F.faults files.new) }
+    ensures too_long { (k : ℕ) → result ≡ Err (ReadError.TooLong k) → NamesTablesFile (tables_of command.now) k × RoseBy (file_limit + 1) (F.taken files.old) (F.taken files.new) }
 
     // Where the files are known, the file of the argument is longer than the limit left for it, and each before it was read; where they are steady,
     // an unread file is the first that is not held, and each before it was read.

@@ -4,7 +4,7 @@ use crate::texts::arguments_of;
 use elf_format::Span;
 use program_files::{ReadError, read_files};
 use program_io::MemoryFiles;
-use program_text::read_command;
+use program_text::{Command, read_command};
 use std::alloc::Global;
 use std::test::Fail;
 
@@ -23,7 +23,7 @@ fn files_of_a_command(rt: HostRuntime) -> Result<(), Fail> {
     let alloc = rt.alloc();
     let arguments = arguments_of(alloc, "tables x86_64 l --sframe s a b a")?;
     let mut files = small_files(alloc)?;
-    if let Ok(command) = read_command(&arguments) {
+    if let Ok(Command::Tables(command)) = read_command(&arguments) {
         match read_files(alloc, &command, &mut files) {
             Ok(read) => {
                 assert_eq!(rt; read.layout.as_slice(), [1].as_slice());
@@ -50,10 +50,13 @@ fn missing_files(rt: HostRuntime) -> Result<(), Fail> {
         ("tables x86_64 l --sframe m a", 4),
         ("tables x86_64 l a b m", 5),
         ("tables x86_64 l --sframe s a b m", 7),
+        ("tables x86_64 l --index 8 a m", 6),
+        ("tables x86_64 l --sframe m --index 8 a", 4),
+        ("tables x86_64 l --sframe s --index 8 a b m", 9),
     ] {
         let arguments = arguments_of(alloc, line)?;
         let mut files = small_files(alloc)?;
-        if let Ok(command) = read_command(&arguments) {
+        if let Ok(Command::Tables(command)) = read_command(&arguments) {
             let error = read_files(alloc, &command, &mut files).err();
             assert_eq!(rt; error, Some(ReadError::Unread(index)));
         }

@@ -1,8 +1,8 @@
 //! The arguments of the command line, the layout and the report.
 
 use elf_format::{Architecture, Span};
-use gdb_index_format::{CuBoundary, NameWords, Placement};
-use program_text::{LayoutError, read_command, read_layout, report_text};
+use gdb_index_format::{CuBoundary, IndexVersion, NameWords, Placement};
+use program_text::{Command, LayoutError, TablesCommand, read_command, read_layout, report_text};
 use sframe_format::SframeOutcome;
 use std::alloc::Global;
 use std::test::Fail;
@@ -16,6 +16,14 @@ pub(crate) fn arguments_of(alloc: Global, line: &str) -> Result<Vec<String>, Fai
     Ok(words)
 }
 
+/// Returns the command `tables` that the arguments are.
+fn tables_command(words: &[String]) -> Option<TablesCommand<'_>> {
+    match read_command(words) {
+        Ok(Command::Tables(command)) => Some(command),
+        _ => None,
+    }
+}
+
 #[test]
 fn usage_errors(rt: HostRuntime) -> Result<(), Fail> {
     let alloc = rt.alloc();
@@ -26,6 +34,23 @@ fn usage_errors(rt: HostRuntime) -> Result<(), Fail> {
         ("tables arm", 1),
         ("tables x86_64", 2),
         ("tables x86_64 l --sframe", 4),
+        ("tables x86_64 l --index", 4),
+        ("tables x86_64 l --index 7 o", 4),
+        ("tables x86_64 l --index --sframe s", 4),
+        ("tables x86_64 l --sframe s --index", 6),
+        ("tables x86_64 l --sframe s --index 10", 6),
+        ("find", 1),
+        ("find i", 2),
+        ("find i 6", 2),
+        ("find i 6g", 2),
+        ("find i 6d 6d", 3),
+        ("frame", 1),
+        ("frame s", 2),
+        ("frame s 08192 8242", 2),
+        ("frame s 18446744073709551616 0", 2),
+        ("frame s 8192", 3),
+        ("frame s 8192 0x2032", 3),
+        ("frame s 8192 8242 16", 4),
     ] {
         let words = arguments_of(alloc, line)?;
         assert_eq!(rt; read_command(&words).err(), Some(index));
@@ -36,15 +61,36 @@ fn usage_errors(rt: HostRuntime) -> Result<(), Fail> {
 #[test]
 fn a_command(rt: HostRuntime) -> Result<(), Fail> {
     let alloc = rt.alloc();
-    let words = arguments_of(alloc, "tables ppc64 l --sframe s o --sframe")?;
-    assert_eq!(rt;
-        read_command(&words).map(|command| (command.machine, command.layout, command.sframe)),
-        Ok((Architecture::Ppc64, "l", Some("s")))
-    );
-    assert_eq!(rt;
-        read_command(&words).map(|command| (command.objects.len(), command.first_object())),
-        Ok((2, 5))
-    );
+    let v8 = IndexVersion::V8;
+    let v9 = IndexVersion::V9;
+    for (line, sframe, version, objects, first) in [
+        ("tables ppc64 l", None, v9, 0, 3),
+        ("tables ppc64 l --sframe s o --sframe", Some("s"), v9, 2, 5),
+        ("tables ppc64 l o --index 7", None, v9, 3, 3),
+        ("tables ppc64 l --index 8 --sframe s", None, v8, 2, 5),
+        (
+            "tables ppc64 l --sframe --index --index 8 --index",
+            Some("--index"),
+            v8,
+            1,
+            7,
+        ),
+        ("tables ppc64 l --index 9 ./--index", None, v9, 1, 5),
+    ] {
+        let words = arguments_of(alloc, line)?;
+        assert_eq!(rt;
+            tables_command(&words).map(|command| (command.machine, command.layout, command.sframe)),
+            Some((Architecture::Ppc64, "l", sframe))
+        );
+        assert_eq!(rt;
+            tables_command(&words).map(|command| (command.index_version(), command.objects.len())),
+            Some((version, objects))
+        );
+        assert_eq!(rt;
+            tables_command(&words).map(|command| command.first_object()),
+            Some(first)
+        );
+    }
     Ok(())
 }
 

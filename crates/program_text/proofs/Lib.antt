@@ -1,3 +1,4 @@
+pub mod HexWords
 pub mod LayoutLemmas
 pub mod LineLemmas
 pub mod NumberLemmas

@@ -9,7 +9,7 @@ use Rattle.program_text.specs.declared.line.Line.{Line}
 use Rattle.program_text.specs.declared.line.Line.TheVariants.{Skipped, Place, Range, Base, Wrong}
 use Rattle.program_text.specs.declared.layout.LayoutError.{LayoutError}
 use Rattle.program_text.specs.declared.layout.LayoutError.TheVariants.{BadLine, NoMemory}
-use Rattle.program_text.specs.Command.{is_word}
+use Rattle.program_text.specs.Arguments.{is_word}
 use Rattle.program_text.specs.Lines.{lines_of, line_words, words_after}
 use Rattle.program_text.specs.Number.{number_of}
 

@@ -1,3 +1,8 @@
+pub mod Arguments
+pub mod Tables
+pub mod Find
+pub mod Frame
+pub mod Query
 pub mod Command
 pub mod Layout
 pub mod Lines

@@ -1,17 +1,25 @@
-//! The texts of the program: the arguments of its command line, the layout that a linker hands in, and the report that it writes.
+//! The texts of the program: the arguments of its command line, the layout that a linker hands in, and what each command writes.
 //!
 //! Each has its definition in `specs/`. A text is a list of lines, and every number is decimal or lower-case hexadecimal.
 #![tactic(auto)]
 
 mod command;
+mod find;
+mod frame;
 mod laws;
 mod layout;
 mod line;
 mod number;
 mod pieces;
+mod query;
 mod report;
+mod tables;
 
 pub use command::{Command, read_command};
-pub use laws::{numbers_have_one_text, small_layouts};
+pub use find::{FindCommand, found_text};
+pub use frame::{FrameCommand, located_text};
+pub use laws::{numbers_have_one_text, small_commands, small_layouts};
 pub use layout::{Layout, LayoutError, read_layout};
+pub use query::Query;
 pub use report::report_text;
+pub use tables::TablesCommand;

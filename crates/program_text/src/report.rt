@@ -87,6 +87,16 @@ fn push_digits(out: &mut Vec<u8>, bytes: &[u8]) -> Result<(), AllocError>
     Ok(())
 }
 
+/// Appends the eight digits of an element of a CU vector.
+pub(crate) fn push_element(out: &mut Vec<u8>, element: u32) -> Result<(), AllocError>
+    ensures ok { OnOk result (out.new.items ≡ out.old.items ++ word_digits element) }
+{
+    let mut digits = [0u8; 8];
+    hex::encode_to_slice(element.to_be_bytes(), &mut digits).unwrap();
+    out.extend_from_slice(&digits)?;
+    Ok(())
+}
+
 /// Appends the eight digits of each element of a CU vector, each after a space.
 fn push_words(out: &mut Vec<u8>, words: &[u32]) -> Result<(), AllocError>
     ensures ok { OnOk result (out.new.items ≡ out.old.items ++ flat_map (λ word. codes " " ++ word_digits word) words.now) }
@@ -94,9 +104,7 @@ fn push_words(out: &mut Vec<u8>, words: &[u32]) -> Result<(), AllocError>
     let mut rest = words;
     while let [word, after @ ..] = rest {
         out.extend_from_slice(b" ")?;
-        let mut digits = [0u8; 8];
-        hex::encode_to_slice(word.to_be_bytes(), &mut digits).unwrap();
-        out.extend_from_slice(&digits)?;
+        push_element(out, *word)?;
         rest = after;
     }
     Ok(())

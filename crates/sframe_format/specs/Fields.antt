@@ -48,3 +48,7 @@ abbrev pub IsParsedHeader : Header → Result Header SframeError → Type 0
 IsParsedHeader h (Ok parsed) = (parsed ≡ h) × (h.magic ≡ sframe_magic) × (h.version ≡ sframe_version)
 IsParsedHeader h (Err (BadMagicBytes value)) = (value ≡ h.magic) × (h.magic ≢ sframe_magic)
 IsParsedHeader h (Err (UnsupportedVersion value)) = (value ≡ h.version) × (h.magic ≡ sframe_magic) × (h.version ≢ sframe_version)
+
+-- the fields of a header have one result
+abbrev pub ParsedHeadersAreOne : Type 0
+ParsedHeadersAreOne = (h : Header) (r s : Result Header SframeError) → IsParsedHeader h r → IsParsedHeader h s → r ≡ s

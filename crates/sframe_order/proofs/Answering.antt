@@ -32,7 +32,7 @@ none_found p a (suc n) e k b = none_from p a n (p a) refl e (none_found p (a + 1
 passed : (x n : ℕ) → not (ltb x n) ≡ false → x < n
 passed x n t = grind (arith, nat_tests)
 
-sound_from : (c : Contribution) (b1 b2 b3 : Bool) (o : Option ℕ) → not (eqb (header c).magic 0xdee2) ≡ b1 → ltb (length c.bytes) (fdes_start c + 20 * (header c).num_fdes) ≡ b2 → ltb (length c.bytes) (fres_start c) ≡ b3 → find (λ d. not (ltb (row_offset c d) (length c.bytes - fres_start c))) (range_with_len 0 (header c).num_fdes) ≡ o
+pub sound_from : (c : Contribution) (b1 b2 b3 : Bool) (o : Option ℕ) → not (eqb (header c).magic 0xdee2) ≡ b1 → ltb (length c.bytes) (fdes_start c + 20 * (header c).num_fdes) ≡ b2 → ltb (length c.bytes) (fres_start c) ≡ b3 → find (λ d. not (ltb (row_offset c d) (length c.bytes - fres_start c))) (range_with_len 0 (header c).num_fdes) ≡ o
     → cond b1 (Some (faults.BadMagic (header c).magic c.offset)) (cond b2 (Some (faults.Truncated FdeArray c.offset)) (cond b3 (Some (faults.Truncated FreStart c.offset)) (offset_fault c o))) ≡ None → IsWellFormedContribution c
 sound_from c true b2 b3 o t1 t2 t3 t4 e = cc
 sound_from c false true b3 o t1 t2 t3 t4 e = cc

@@ -74,7 +74,7 @@ is_magic m e = grind (arith, nat_tests)
 not_below : (m n : ℕ) → n ≤ m → ltb m n ≡ false
 not_below m n h = grind (arith, nat_tests)
 
-no_fault : (c : Contribution) → IsWellFormedContribution c → contribution_fault c ≡ None
+pub no_fault : (c : Contribution) → IsWellFormedContribution c → contribution_fault c ≡ None
 no_fault c sound =
     none_of _ _ _ _ _ _ _ (is_magic (header c).magic sound.magic) (not_below _ _ sound.fdes) (not_below _ _ sound.fres)
     (ap (offset_fault c) (sym (none_below (λ d. not (ltb (row_offset c d) (length c.bytes - fres_start c))) (header c).num_fdes (λ k b. passes_below _ _ (sound.offsets k b)))))

@@ -18,7 +18,8 @@ use Rattle.sframe_format.specs.Sorted.{IsMerged}
 use Rattle.sframe_format.proofs.Again.{HeaderFits, header_of-header_bytes}
 use Rattle.sframe_format.proofs.Headers.{same_header}
 use Rattle.sframe_order.specs.Laws.{AreBytes, used_span}
-use Rattle.sframe_order.proofs.Carried.{IsWhole, All-in_order, whole, length_range}
+use Rattle.sframe_order.specs.steps.View.{AreShort}
+use Rattle.sframe_order.proofs.Carried.{IsWhole, All-in_order, whole, length_range, length_range-le}
 use Rattle.sframe_order.proofs.Fdes.{range-range}
 use Rattle.sframe_order.proofs.Flags.{merged_flags_stay}
 use Rattle.sframe_order.proofs.Laid.{IsLaid, functions_again}
@@ -27,7 +28,7 @@ use Rattle.sframe_order.proofs.Reading.{read_ones-kept, other_version-kept}
 
 -- ---- bytes
 
-byte_at : (xs : List ℕ) (k : ℕ) → AreBytes xs → get_or xs k 0 < 256
+pub byte_at : (xs : List ℕ) (k : ℕ) → AreBytes xs → get_or xs k 0 < 256
 byte_at [] k all = let none : List ℕ = [] in let past : get_or none k 0 ≡ 0 = get_or_past none k 0 (omega arith) in omega arith
 byte_at (x ∷ xs) zero all = All-head (λ b. b < 256) x xs all
 byte_at (x ∷ xs) (suc k) all = byte_at xs k (All-tail (λ b. b < 256) x xs all)
@@ -52,6 +53,15 @@ read_bytes : (s : List ℕ) (rs : List Span) → AreBytes s → All (λ (c : Con
 read_bytes s rs all =
     taken_while (λ c. not (is_other_version c)) (λ (c : Contribution). AreBytes c.bytes) (contributions s rs)
     (All-map (λ (c : Contribution). AreBytes c.bytes) (contribution_at s) (filter is_contribution rs) (λ k d below. All-take (λ b. b < 256) _ _ (All-drop (λ b. b < 256) _ s all)))
+
+at_short : (s : List ℕ) (r : Span) → length s < 2 ^ 32 → length (contribution_at s r).bytes < 2 ^ 32
+at_short s r small = omega (arith, length_range-le s r.start r.stop)
+
+-- what is read from a short section is short
+pub read_short : (s : List ℕ) (rs : List Span) → length s < 2 ^ 32 → AreShort (read_ones s rs)
+read_short s rs small =
+    taken_while (λ c. not (is_other_version c)) (λ (c : Contribution). length c.bytes < 2 ^ 32) (contributions s rs)
+    (All-map (λ (c : Contribution). length c.bytes < 2 ^ 32) (contribution_at s) (filter is_contribution rs) (λ k d below. at_short s (get_or (filter is_contribution rs) k d) small))
 
 -- ---- the header
 

@@ -5,17 +5,21 @@ use Rattle.std.proofs.lemmas.List.Elements.{All-nil, All-cons}
 use Rattle.std.proofs.lemmas.List.Sums.{sum_by-take-le, sum_by_more}
 use Rattle.sframe_format.specs.declared.header.Header.{Header}
 use Rattle.elf_format.specs.declared.index.Span.{Span}
-use Rattle.sframe_format.specs.Contribution.{Contribution, Function, header, read_ones, functions}
+use Rattle.sframe_format.specs.Contribution.{Contribution, Function, contribution_at, header, read_ones, functions_of, functions}
 use Rattle.sframe_format.specs.Order.{InOrder}
-use Rattle.sframe_format.specs.Merged.{merged, merged_flags, merged_starts, used_len, merged_fdes_start, start_fields, fres_len, fre_count}
+use Rattle.sframe_format.specs.Merged.{merged, merged_flags, merged_header, merged_starts, used_len, merged_fdes_start, start_fields, fres_len, fre_count}
 use Rattle.sframe_format.specs.Valid.{IsWellFormedContribution, AreWellFormedContributions, IsSortable, MergesInOrder, HasRoom, StartsFit}
+use Rattle.std.proofs.lemmas.List.{append-nil}
+use Rattle.elf_format.specs.Flags.{has_flag}
 use Rattle.elf_format.specs.Span.{IsInside}
 use Rattle.sframe_format.specs.Sorted.{IsMerged}
 use Rattle.sframe_order.proofs.Again.{before}
 use Rattle.sframe_order.proofs.Answering.{same_merge}
-use Rattle.sframe_order.proofs.Laid.{IsLaid, fres_place, offset_at}
-use Rattle.sframe_order.proofs.Repeated.{IsGood, merged_one, one_header, one_laid, length_merged, flags_again, place_again, used_again, read_again, merge_again, again, good_from}
-use Rattle.sframe_order.specs.Laws.{AreBytes, used_span}
+use Rattle.sframe_order.proofs.Laid.{IsLaid, fres_place, offset_at, functions_again}
+use Rattle.sframe_order.proofs.Flags.{merged_flags_sorted}
+use Rattle.sframe_order.proofs.OneResult.{no_fault}
+use Rattle.sframe_order.proofs.Repeated.{IsGood, byte_at, merged_one, one_header, one_laid, length_merged, flags_again, place_again, used_again, read_again, merge_again, again, good_from}
+use Rattle.sframe_order.specs.Laws.{AreBytes, used_span, IsSortedContribution}
 
 laid_sound : (x : Contribution) (flags a : ℕ) (gs : List Function) (g : Function) → IsLaid x flags a gs → (header x).magic ≡ 0xdee2 → IsWellFormedContribution x
 laid_sound x flags a gs g laid magic = record {
@@ -73,3 +77,28 @@ pub stays_valid : (s t : List ℕ) (rs : List Span) (used : ℕ) → AreBytes s 
 stays_valid s t rs used bytes valid h =
     let same : IsSortable (merged s h.c h.cs h.gs) (used_span (used_len h.c h.gs) ∷ []) = valid_again s h.c h.cs h.gs (functions (read_ones s rs)) no_function (good_of s t rs used bytes valid h) h.merge.order h.merge.some in
     subst (λ n. IsSortable t (used_span n ∷ [])) (sym h.used_is) (subst (λ b. IsSortable b (used_span (used_len h.c h.gs) ∷ [])) (sym h.bytes_are) same)
+
+sorted_one : (s : List ℕ) (c : Contribution) (cs : List Contribution) (fs gs : List Function) → IsGood s c cs gs → InOrder fs gs → IsSortedContribution fs (merged_one s c cs gs)
+sorted_one s c cs fs gs good order =
+    let x : Contribution = merged_one s c cs gs in
+    let laid : IsLaid x (merged_flags c cs) (header c).aux_len gs = one_laid s c cs gs good in
+    let is : header x ≡ merged_header c cs gs = one_header s c cs gs good in
+    let flags : (header x).flags ≡ merged_flags c cs = laid.flags_are in
+    record {
+      long = omega (arith, laid.len);
+      version = ap (λ (h : Header). h.version) is;
+      flag = ap (λ f. has_flag f 1) flags ∙ merged_flags_sorted c cs (byte_at c.bytes 3 good.bytes);
+      fault = no_fault x (laid_sound x (merged_flags c cs) (header c).aux_len gs no_function laid (ap (λ (h : Header). h.magic) is));
+      order = subst (InOrder fs) (sym (sym (append-nil (functions_of x)) ∙ functions_again x (merged_flags c cs) (header c).aux_len gs laid)) order;
+    }
+
+-- the used bytes of a sorted section have its functions in order
+pub read_in_order : (s t : List ℕ) (rs : List Span) (used : ℕ) → AreBytes s → IsSortable s rs → IsMerged s rs t used → (used ≤ length t) × IsSortedContribution (functions (read_ones s rs)) (contribution_at t (used_span used))
+read_in_order s t rs used bytes valid h =
+    let good : IsGood s h.c h.cs h.gs = good_of s t rs used bytes valid h in
+    let m : List ℕ = merged s h.c h.cs h.gs in
+    let n : ℕ = used_len h.c h.gs in
+    let fs : List Function = functions (read_ones s rs) in
+    let within : n ≤ length m = omega (arith, length_merged s h.c h.cs h.gs good, good.room.used) in
+    let one : IsSortedContribution fs (contribution_at m (used_span n)) = sorted_one s h.c h.cs fs h.gs good h.merge.order in
+    subst (λ k. (k ≤ length t) × IsSortedContribution fs (contribution_at t (used_span k))) (sym h.used_is) (subst (λ b. (n ≤ length b) × IsSortedContribution fs (contribution_at b (used_span n))) (sym h.bytes_are) (within, one))

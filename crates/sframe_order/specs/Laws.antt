@@ -1,13 +1,16 @@
 -- Laws of sorting: what is sorted stays sorted; there is one result, one outcome and one cause.
-use Rattle.std.specs.Prelude.{◌≡◌, ◌≢◌, ℕ, ◌<◌, List, [], ◌∷◌, Some, None}
+use Rattle.std.specs.Prelude.{◌≡◌, ◌≢◌, ℕ, ◌<◌, ◌≤◌, List, [], ◌∷◌, length, true, Some, None}
 use Rattle.std.specs.List.{All}
 use Rattle.elf_format.specs.declared.index.Span.{Span}
 use Rattle.sframe_format.specs.declared.fault.SframeOutcome.{SframeOutcome}
 use Rattle.sframe_format.specs.declared.fault.SframeOutcome.TheVariants.{Sorted, NoDescriptors, OtherVersion}
 use Rattle.sframe_format.specs.declared.fault.SframeFault.{SframeFault}
 use Rattle.sframe_format.specs.declared.fault.SframeFault.TheVariants.{NoMemory}
-use Rattle.sframe_format.specs.Contribution.{header, read_ones, other_version}
-use Rattle.sframe_format.specs.Valid.{IsSortable, IsSortCause}
+use Rattle.elf_format.specs.Flags.{has_flag}
+use Rattle.sframe_format.specs.Numbers.{sframe_version, sframe_header_size, sframe_f_fde_sorted}
+use Rattle.sframe_format.specs.Contribution.{Contribution, Function, contribution_at, header, read_ones, other_version, functions, functions_of}
+use Rattle.sframe_format.specs.Order.{InOrder}
+use Rattle.sframe_format.specs.Valid.{IsSortable, IsSortCause, contribution_fault}
 use Rattle.sframe_format.specs.Sorted.{SortOf}
 
 abbrev pub AreBytes : List ℕ → Type 0
@@ -25,6 +28,18 @@ StaysSorted = (s t : List ℕ) (rs : List Span) (used : ℕ) → AreBytes s → 
 -- the used bytes of a sorted section can be sorted again
 abbrev pub StaysValid : Type 0
 StaysValid = (s t : List ℕ) (rs : List Span) (used : ℕ) → AreBytes s → IsSortable s rs → SortOf s rs t (Sorted used) → IsSortable t (used_span used ∷ [])
+
+-- a contribution of version 2, with flag 1 and without a fault, whose functions are these in order
+pub record IsSortedContribution (fs : List Function) (c : Contribution) : Type 0 where
+  pub long : sframe_header_size ≤ length c.bytes
+  pub version : (header c).version ≡ sframe_version
+  pub flag : has_flag (header c).flags sframe_f_fde_sorted ≡ true
+  pub fault : contribution_fault c ≡ None
+  pub order : InOrder fs (functions_of c)
+
+-- The used bytes of a sorted section are a sorted contribution, whose functions are those of the section.
+abbrev pub IsReadInOrder : Type 0
+IsReadInOrder = (s t : List ℕ) (rs : List Span) (used : ℕ) → AreBytes s → IsSortable s rs → SortOf s rs t (Sorted used) → (used ≤ length t) × IsSortedContribution (functions (read_ones s rs)) (contribution_at t (used_span used))
 
 -- sorting gives these bytes and this outcome, and nothing else
 abbrev pub IsOnlySort : List ℕ → List Span → List ℕ → SframeOutcome → Type 0

@@ -3,6 +3,8 @@
 
 use derivation::{DeriveError, derive_tables};
 use elf_format::{Architecture, Span};
+use gdb_index_format::IndexVersion;
+use sframe_find::check_sframe;
 use sframe_format::{LargeKind, SframeFault, SframeOutcome, TruncatedKind};
 use sframe_order::sort_sframe_section;
 use std::alloc::Global;
@@ -85,6 +87,7 @@ fn derived(
         sframe,
         ranges,
         base,
+        IndexVersion::V9,
     ) {
         Ok(derived) => Ok((derived.sframe, derived.outcome)),
         Err(error) => Err(error),
@@ -132,6 +135,9 @@ fn sorted_sections(rt: HostRuntime) -> Result<(), Fail> {
         let (again, result) = sorted(alloc, &once, &[used], base)?;
         assert_eq!(rt; result, Ok(SframeOutcome::Sorted { used: 74 }));
         assert_eq!(rt; again.as_slice(), once.as_slice());
+        if let Some(used) = once.get(..74) {
+            assert!(rt; check_sframe(used, base).is_ok());
+        }
         let (bytes, outcome) = derived(alloc, &section, &HALVES, base)?;
         assert_eq!(rt; outcome, SframeOutcome::Sorted { used: 74 });
         assert_eq!(rt; bytes.as_slice(), once.as_slice());

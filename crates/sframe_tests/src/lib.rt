@@ -3,6 +3,8 @@
 #![tactic(auto)]
 
 #[cfg(test)]
+mod find;
+#[cfg(test)]
 mod frames;
 #[cfg(test)]
 mod header;

@@ -1,6 +1,7 @@
 //! Objects that several tests read.
 
-use crate::object_file::object;
+use crate::class::ObjectClass;
+use crate::object_file::{object, object_of_class};
 use crate::section::{Section, plain};
 use elf_format::Architecture;
 use elf_words::{
@@ -34,14 +35,36 @@ const SYMBOLS: &[u8] = b"\
     \0\0\0\0\x03\0\x03\0\0\0\0\0\0\0\0\0\0\0\0\0\0\0\0\0\
     \0\0\0\0\x03\0\x04\0\0\0\0\0\0\0\0\0\0\0\0\0\0\0\0\0";
 
+/// The RELA records of these CUs in ELFCLASS32.
+const RELOCATIONS_32: &[u8] = b"\
+    \x08\0\0\0\x01\x01\0\0\0\0\0\0\
+    \x14\0\0\0\x01\x02\0\0\0\0\0\0";
+
+/// The null symbol, and the section symbols of sections 3 and 4, in ELFCLASS32.
+const SYMBOLS_32: &[u8] = b"\
+    \0\0\0\0\0\0\0\0\0\0\0\0\0\0\0\0\
+    \0\0\0\0\0\0\0\0\0\0\0\0\x03\0\x03\0\
+    \0\0\0\0\0\0\0\0\0\0\0\0\x03\0\x04\0";
+
 /// A CIE, and an FDE of no code.
 const FRAMES: &[u8] = b"\x04\0\0\0\0\0\0\0\x0c\0\0\0\x0c\0\0\0\0\0\0\0\0\0\0\0";
 
-/// Returns an object for x86-64 with these bytes of `.debug_info` (section 1) and of `.debug_gnu_pubnames`
-/// (section 2), and 16 bytes of code (section 3).
+/// Returns an object of ELFCLASS64 for x86-64 with these bytes of `.debug_info` (section 1) and of
+/// `.debug_gnu_pubnames` (section 2), and 16 bytes of code (section 3).
 pub fn object_with_names(alloc: Global, info: &[u8], names: &[u8]) -> Result<Vec<u8>, AllocError> {
-    object(
+    object_with_names_of(alloc, ObjectClass::Elf64, info, names)
+}
+
+/// Returns such an object of a class.
+pub fn object_with_names_of(
+    alloc: Global,
+    class: ObjectClass,
+    info: &[u8],
+    names: &[u8],
+) -> Result<Vec<u8>, AllocError> {
+    object_of_class(
         alloc,
+        class,
         ET_REL,
         Architecture::X86_64.machine(),
         &[
@@ -52,11 +75,21 @@ pub fn object_with_names(alloc: Global, info: &[u8], names: &[u8]) -> Result<Vec
     )
 }
 
-/// Returns an object for x86-64 with two CUs of twelve bytes (section 1) and relocations of them (section 2):
-/// the first refers to the code of section 3, the second to that of section 4. No CU refers to section 5.
+/// Returns an object of ELFCLASS64 for x86-64 with two CUs of twelve bytes (section 1) and relocations of them
+/// (section 2): the first refers to the code of section 3, the second to that of section 4. No CU refers to section 5.
 pub fn object_of_two_units(alloc: Global) -> Result<Vec<u8>, AllocError> {
-    object(
+    object_of_two_units_of(alloc, ObjectClass::Elf64)
+}
+
+/// Returns such an object of a class.
+pub fn object_of_two_units_of(alloc: Global, class: ObjectClass) -> Result<Vec<u8>, AllocError> {
+    let (relocations, symbols) = match class {
+        ObjectClass::Elf32 => (RELOCATIONS_32, SYMBOLS_32),
+        ObjectClass::Elf64 => (RELOCATIONS, SYMBOLS),
+    };
+    object_of_class(
         alloc,
+        class,
         ET_REL,
         Architecture::X86_64.machine(),
         &[
@@ -65,8 +98,8 @@ pub fn object_of_two_units(alloc: Global) -> Result<Vec<u8>, AllocError> {
                 section_type: SHT_RELA,
                 link: 7,
                 info: 1,
-                entry_size: 24,
-                ..plain(b".rela.debug_info", 0, RELOCATIONS)
+                entry_size: class.rela_size(),
+                ..plain(b".rela.debug_info", 0, relocations)
             },
             plain(b".text.a", CODE, &[0; 16]),
             plain(b".text.b", CODE, &[0; 16]),
@@ -76,8 +109,8 @@ pub fn object_of_two_units(alloc: Global) -> Result<Vec<u8>, AllocError> {
                 section_type: SHT_SYMTAB,
                 link: 8,
                 info: 3,
-                entry_size: 24,
-                ..plain(b".symtab", 0, SYMBOLS)
+                entry_size: class.symbol_size(),
+                ..plain(b".symtab", 0, symbols)
             },
             Section {
                 section_type: SHT_STRTAB,
@@ -87,7 +120,7 @@ pub fn object_of_two_units(alloc: Global) -> Result<Vec<u8>, AllocError> {
     )
 }
 
-/// Returns an object for x86-64 with a CU, an empty `.debug_gnu_pubnames`, code, two symbols with their
+/// Returns an object of ELFCLASS64 for x86-64 with a CU, an empty `.debug_gnu_pubnames`, code, two symbols with their
 /// strings and version indexes, and the section names.
 pub fn sample(alloc: Global) -> Result<Vec<u8>, AllocError> {
     object(

@@ -1,19 +1,11 @@
-use Rattle.derivation.specs.Input.{input_of}
 use Rattle.derivation.proofs.Answering.{told, only_memory}
-use Rattle.derivation.proofs.Phases.{no_refusal}
 use Rattle.derivation.proofs.derive.derive_tables.Goals as goal
 
 pub returns-in-Ok-clause-exact : goal.returns-in-Ok-clause-exact
-returns-in-Ok-clause-exact c =
-    let input = input_of c.args.expected c.args.buffer.now c.args.objects.now c.args.placements.now c.args.sframe.now c.args.ranges.now in
-    λ e cause. no_refusal input e c.in-Ok.ensures.valid cause
+returns-in-Ok-clause-exact c = λ e cause. c.valid_has_no_cause.ensures _ e c.in-Ok.ensures.valid cause
 
 pub returns-in-Err-clause-exact : goal.returns-in-Err-clause-exact
-returns-in-Err-clause-exact c =
-    let input = input_of c.args.expected c.args.buffer.now c.args.objects.now c.args.placements.now c.args.sframe.now c.args.ranges.now in
-    λ e cause. told input e c.in-Err.error c.in-Err.ensures.cause cause
+returns-in-Err-clause-exact c = λ e cause. told c.refused_for_one_cause.ensures _ e c.in-Err.error c.in-Err.ensures cause
 
 pub returns-in-Err-clause-complete : goal.returns-in-Err-clause-complete
-returns-in-Err-clause-complete c =
-    let input = input_of c.args.expected c.args.buffer.now c.args.objects.now c.args.placements.now c.args.sframe.now c.args.ranges.now in
-    λ valid. only_memory input c.in-Err.error c.in-Err.ensures.cause valid
+returns-in-Err-clause-complete c = λ valid. only_memory c.valid_has_no_cause.ensures _ c.in-Err.error c.in-Err.ensures valid

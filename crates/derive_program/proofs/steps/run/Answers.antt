@@ -1,5 +1,5 @@
 use Rattle.std.proofs.Common.{inl, inr}
-use Rattle.derive_program.proofs.ClauseLemmas.{cause_at, bad_words, unwritten_by, silent_by, done_by, refused_by, not_span_by, complete_by, complete_or_fault_by, layout_exact_by, refused_exact_by}
+use Rattle.derive_program.proofs.ClauseLemmas.{cause_at, bad_words, unwritten_by, silent_by, done_by, refused_by, not_span_by, complete_by, complete_or_fault_by, layout_exact_by, refused_exact_by, replied_by, reply_exact_by, reply_complete_by}
 use Rattle.derive_program.proofs.steps.run.Goals as goal
 
 pub returns-clause-words : goal.returns-clause-words
@@ -48,7 +48,16 @@ pub returns-clause-silent : goal.returns-clause-silent
 returns-clause-silent g c = λ silent. silent_by _ _ _ _ c.answer.ensures.cause silent
 
 pub returns-clause-not_span : goal.returns-clause-not_span
-returns-clause-not_span g c = not_span_by _ _ _ _ c.answer.ensures.cause
+returns-clause-not_span g c = not_span_by c.inside_is_no_bad_span.ensures _ _ _ _ c.answer.ensures.cause
 
 pub returns-clause-complete_or_fault : goal.returns-clause-complete_or_fault
 returns-clause-complete_or_fault g c = λ good. complete_or_fault_by _ _ _ _ c.answer.ensures.cause good
+
+pub returns-clause-replied : goal.returns-clause-replied
+returns-clause-replied g c = λ reply is. replied_by _ _ _ _ reply c.answer.ensures.cause is
+
+pub returns-clause-reply_exact : goal.returns-clause-reply_exact
+returns-clause-reply_exact g c = λ good reply replies files. reply_exact_by c.replies_are_one.ensures.of_bytes _ _ _ _ c.answer.ensures.cause good reply replies files
+
+pub returns-clause-reply_complete : goal.returns-clause-reply_complete
+returns-clause-reply_complete g c = λ good files sink. reply_complete_by _ _ _ _ c.answer.ensures.cause good files sink

@@ -4,25 +4,26 @@ use lib.Count.{ones}
 use Rattle.elf_format.specs.Bytes.{le, string_at}
 use Rattle.gdb_index_format.specs.Slots.{slot_of}
 use Rattle.gdb_index_format.specs.Units.{index_units}
+use Rattle.gdb_index_format.specs.Version.{header_len, pool_field}
 use Rattle.gdb_index_format.specs.Probe.{table_at, pool_at, slot_count, are_in_order, is_table, index_fault, vector_at, step_in, probe_from, probe}
 use Rattle.gdb_index_format.proofs.examples.faulty_indexes.Goals as goal
 
 pub returns-clause-short : goal.returns-clause-short
-unfolding le string_at probe index_fault are_in_order is_table slot_count pool_at table_at probe_from step_in slot_of vector_at ones
+unfolding le string_at probe index_fault are_in_order is_table slot_count pool_at table_at probe_from step_in slot_of vector_at ones header_len pool_field
 returns-clause-short c = refl
 
 pub returns-clause-version : goal.returns-clause-version
-unfolding le string_at probe index_fault are_in_order is_table slot_count pool_at table_at probe_from step_in slot_of vector_at ones
+unfolding le string_at probe index_fault are_in_order is_table slot_count pool_at table_at probe_from step_in slot_of vector_at ones header_len pool_field
 returns-clause-version c = refl
 
 pub returns-clause-offsets : goal.returns-clause-offsets
-unfolding le string_at probe index_fault are_in_order is_table slot_count pool_at table_at probe_from step_in slot_of vector_at ones
+unfolding le string_at probe index_fault are_in_order is_table slot_count pool_at table_at probe_from step_in slot_of vector_at ones header_len pool_field
 returns-clause-offsets c = refl
 
 pub returns-clause-slots : goal.returns-clause-slots
-unfolding le string_at probe index_fault are_in_order is_table slot_count pool_at table_at probe_from step_in slot_of vector_at ones
+unfolding le string_at probe index_fault are_in_order is_table slot_count pool_at table_at probe_from step_in slot_of vector_at ones header_len pool_field
 returns-clause-slots c = refl
 
 pub returns-clause-no_units : goal.returns-clause-no_units
-unfolding le index_units
+unfolding le index_units header_len
 returns-clause-no_units c = refl

@@ -9,6 +9,7 @@ use Rattle.dwarf_sections.specs.UnitSearch.{Ascend}
 use Rattle.gdb_scan.specs.declared.error.GdbError.TheVariants.{NoMemory}
 use Rattle.gdb_scan.specs.Cause.{IsScanCause, compressed, in_units, in_names, no_memory}
 use Rattle.gdb_scan.specs.steps.Gathered.{GathersNames}
+use Rattle.gdb_scan.specs.Buckets.{in_buckets}
 use Rattle.gdb_scan.specs.Groups.{shown}
 use Rattle.gdb_scan.specs.Marks.{groups_in}
 use Rattle.gdb_scan.specs.PlacedIn.{placed_in}
@@ -16,7 +17,6 @@ use Rattle.gdb_index_format.specs.Placed.{is_counted}
 use Rattle.gdb_scan.specs.Scan.{IsSoundScan}
 use Rattle.gdb_scan.proofs.Causes.{holds_of, only_memory}
 use Rattle.gdb_scan.proofs.OneCause.{refused_by, one_scan_cause, told_object, no_scan_cause}
-use Rattle.gdb_scan.proofs.Marking.{listed_shows}
 use Rattle.gdb_scan.proofs.Sounding.{units_ascend, placed_few, sound_scan, scanned, scanned_none, fails_in_names}
 use Rattle.gdb_scan.proofs.scan.scan_one_object.Goals as goal
 
@@ -99,8 +99,8 @@ returns-in_err-names-2-clause-exact g c =
     let p = err_from_is_err_and c.from_residual-in_err-names-2.result c.from_residual-in_err-names-2.ensures.1 in
     λ e cause some. refused_by (IsScanCause class object file) c.from_residual-in_err-names-2.result NoMemory e (one_scan_cause class object file) (p.1 ∙ ap (λ x. Err x) p.2) (returns-in_err-names-2-clause-cause g c) cause some
 
-pub new-requires : goal.new-requires
-new-requires g c =
+pub new-requires-clause-sound : goal.new-requires-clause-sound
+new-requires-clause-sound g c =
     let class = g.C.ElfClass.class in
     let file = c.args.file.now.bytes in
     let object = c.args.object in
@@ -108,7 +108,7 @@ new-requires g c =
     let units = c.in_ok-units.ensures.units in
     let some : 0 < length us = grind (arith, common_steps) in
     let gathered : GathersNames class file us (shown c.in_ok-names.names.entries) = subst (λ xs. GathersNames class file xs (shown c.in_ok-names.names.entries)) (c.ascending.ensures ∙ c.deref.ensures.value) c.in_ok-names.ensures.names in
-    let named : groups_in c.in_ok-names-2.names.items ≡ shown c.in_ok-names.names.entries = ap groups_in c.in_ok-names-2.ensures ∙ listed_shows c.in_ok-names.names.entries in
+    let named : groups_in c.in_ok-names-2.names.items ≡ in_buckets (shown c.in_ok-names.names.entries) = c.in_ok-names-2.ensures.listed in
     let count : c.count_placed-placed.result ≡ placed_in class file object c.args.placements.now = c.count_placed-placed.ensures ∙ ap (λ l. length (filter (is_counted class file) l)) c.placements_of.ensures in
     subst (λ gs. IsSoundScan (record { units = us; names = gs; placed = c.count_placed-placed.result })) (sym named)
     (sound_scan class file us (shown c.in_ok-names.names.entries) c.count_placed-placed.result c.requires.small units some gathered c.in_ok-names.ensures.fit (subst (λ n. n ≤ length (sections class file)) (sym count) (placed_few class file object c.args.placements.now c.requires.placements c.requires.named)))
@@ -123,7 +123,7 @@ returns-clause-scan g c =
     let units = c.in_ok-units.ensures.units in
     let some : 0 < length us = grind (arith, common_steps) in
     let gathered : GathersNames class file us (shown c.in_ok-names.names.entries) = subst (λ xs. GathersNames class file xs (shown c.in_ok-names.names.entries)) (c.ascending.ensures ∙ c.deref.ensures.value) c.in_ok-names.ensures.names in
-    let named : groups_in c.in_ok-names-2.names.items ≡ shown c.in_ok-names.names.entries = ap groups_in c.in_ok-names-2.ensures ∙ listed_shows c.in_ok-names.names.entries in
+    let named : groups_in c.in_ok-names-2.names.items ≡ in_buckets (shown c.in_ok-names.names.entries) = c.in_ok-names-2.ensures.listed in
     let count : c.count_placed-placed.result ≡ placed_in class file object c.args.placements.now = c.count_placed-placed.ensures ∙ ap (λ l. length (filter (is_counted class file) l)) c.placements_of.ensures in
     scanned class file object c.args.placements.now us (shown c.in_ok-names.names.entries) c.count_placed-placed.result c.new.result (c.new.ensures ∙ ap (λ gs. record { units = us; names = gs; placed = c.count_placed-placed.result }) named) units some gathered plain count c.in_ok-names.ensures.fit
 

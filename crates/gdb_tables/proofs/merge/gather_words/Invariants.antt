@@ -1,7 +1,7 @@
-use Rattle.std.specs.Vec.Iter.{into_iter_items, into_iter_len}
+use Rattle.std.proofs.Common.{drop}
 use Rattle.gdb_scan.specs.Groups.{shown}
-use Rattle.gdb_tables.proofs.Merging.{Merges}
+use Rattle.gdb_tables.proofs.Merging.{Gathering}
 use Rattle.gdb_tables.proofs.merge.gather_words.Given as goal
 
 abbrev pub invariant-loop-scan : goal.invariant-loop-scan
-invariant-loop-scan l = Merges (shown l.names.entries) l.first (into_iter_items l.scan-iterator) (into_iter_len l.scan-iterator) l.fn.scans.items
+invariant-loop-scan l = Gathering l.bucket (shown l.names.entries) l.first (drop l.scan-index l.scans) l.scans

@@ -3,7 +3,7 @@ use Rattle.std.proofs.lemmas.List.{length-map}
 use Rattle.std.specs.Prelude.{Vec}
 use Rattle.std.specs.declared.alloc.Global.{Global}
 use Rattle.elf_format.specs.declared.index.Span.{Span}
-use Rattle.program_text.specs.Command.{tables_of}
+use Rattle.program_text.specs.Tables.{tables_of}
 use Rattle.program_files.proofs.NameLemmas.{read_both, read_some}
 use Rattle.program_files.proofs.ReadLemmas.{same_error, err_of, some_mapped, sframe_error, objects_settle, sframe_index, object_index, all_read, spans_counted, spans_within}
 use Rattle.program_files.proofs.reading.read_files.Goals as goal

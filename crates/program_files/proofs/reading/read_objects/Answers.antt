@@ -1,7 +1,7 @@
 use Rattle.std.proofs.Common.{rules, ◌≡◌, ◌+◌, ◌-◌, ◌≤◌, ℕ, List, [], ◌∷◌, length, take, drop, get_or, String, string_bytes, sym, ap, ◌∙◌, arith, length-drop}
 use Rattle.std.proofs.Math.Seq.{take-length}
 use Rattle.std.specs.declared.alloc.Global.{Global}
-use Rattle.program_text.specs.Command.{arguments_of}
+use Rattle.program_text.specs.Arguments.{arguments_of}
 use Rattle.program_files.proofs.NameLemmas.{one_more_name, names_at_error}
 use Rattle.program_files.proofs.ObjectLemmas.{one_more_so_far}
 use Rattle.program_files.proofs.ReadLemmas.{err_of}

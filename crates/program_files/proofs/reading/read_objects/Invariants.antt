@@ -1,5 +1,5 @@
 use Rattle.std.proofs.Common.{◌≡◌, ◌+◌, ◌≤◌, length}
-use Rattle.program_text.specs.Command.{arguments_of}
+use Rattle.program_text.specs.Arguments.{arguments_of}
 use Rattle.program_files.proofs.NameLemmas.{NamesSoFar}
 use Rattle.program_files.proofs.ObjectLemmas.{ObjectsSoFar}
 use Rattle.program_files.proofs.reading.read_objects.Given as goal

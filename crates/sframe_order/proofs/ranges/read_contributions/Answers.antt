@@ -2,7 +2,8 @@ use Rattle.std.proofs.Common.{◌≡◌, ◌+◌, drop, get_or, ◌++◌, ◌∙
 use Rattle.std.proofs.lemmas.List.{map_push}
 use Rattle.elf_format.specs.declared.index.Span.{Span}
 use Rattle.sframe_format.specs.Contribution.{read_ones, is_contribution}
-use Rattle.sframe_order.specs.steps.View.{contributions_view, contribution_view}
+use Rattle.sframe_order.specs.Reader.{contribution_view}
+use Rattle.sframe_order.specs.steps.View.{contributions_view}
 use Rattle.sframe_order.proofs.Reading.{read_ones-step, other_version-step}
 use Rattle.sframe_order.proofs.ranges.read_contributions.Goals as goal
 

@@ -1,6 +1,6 @@
 use Rattle.std.proofs.Common.{◌-◌, not, ltb, length, below_more, arith}
 use Rattle.sframe_format.specs.Contribution.{row_offset, fres_start}
-use Rattle.sframe_order.specs.steps.View.{contribution_view}
+use Rattle.sframe_order.specs.Reader.{contribution_view}
 use Rattle.sframe_order.proofs.FirstOf.{first_below, none_below, passes_below, fails_from}
 use Rattle.sframe_order.proofs.contribution.Contribution.first_far_fres.Goals as goal
 

@@ -1,0 +1,91 @@
+-- Private steps: only private contracts cite this module.
+-- What the program answers for the files that it read.
+use Rattle.std.specs.Prelude.{◌≡◌, ◌≢◌, ◌⊎◌, ℕ, List, Ok, Err, Option, Some, None}
+use Rattle.elf_format.specs.declared.architecture.Architecture.{Architecture}
+use Rattle.gdb_index_format.specs.declared.version.IndexVersion.{IndexVersion}
+use Rattle.derivation.specs.declared.error.DeriveError.{DeriveError}
+use Rattle.derivation.specs.declared.error.DeriveError.TheVariants as errors
+use Rattle.program_files.specs.declared.error.ReadError.{ReadError}
+use Rattle.program_files.specs.declared.error.ReadError.TheVariants as read
+use Rattle.program_files.specs.declared.files_read.FilesRead.{FilesRead}
+use Rattle.program_text.specs.Layout.{LayoutEntries, layout_of}
+use Rattle.derive_program.specs.declared.ran.Ran.{Ran}
+use Rattle.derive_program.specs.declared.ran.Ran.TheVariants.{Done, Refused, BadLayout, ReadFault, FileTooLong, WriteFault, NoMemory}
+use Rattle.gdb_index_format.specs.declared.name_words.NameWords.{NameWords}
+use Rattle.gdb_index_format.specs.declared.unit.CuBoundary.{CuBoundary}
+use Rattle.sframe_format.specs.declared.fault.SframeOutcome.{SframeOutcome}
+use Rattle.program_text.specs.Query.{Query}
+use Rattle.program_text.specs.Report.{report_of}
+use Rattle.derive_program.specs.Cause.{HasReport, IsRefused, IsReported, IsCutOff, IsNotWritten}
+use Rattle.derive_program.specs.ProgramInput.{ProgramInput}
+use Rattle.derive_program.specs.Reply.{Reply, IsReply, reply_text, reply_in}
+use Rattle.derive_program.specs.Writing.{Writes, IsSilent, IsPutOnce, IsReportWritten, IsPrefixWritten, IsWhole}
+
+-- the input that files are, with a layout
+abbrev pub program_input_of : Architecture → IndexVersion → FilesRead → LayoutEntries → ProgramInput
+program_input_of machine version files layout =
+    record { machine = machine; version = version; layout = layout; buffer = files.buffer.items; objects = files.objects.items; sframe = files.sframe.items }
+
+-- the input is what these files are, with their layout
+pub record IsInputOfFiles (machine : Architecture) (version : IndexVersion) (files : FilesRead) (input : ProgramInput) : Type 0 where
+  pub layout : LayoutEntries
+  pub laid : layout_of files.layout.items ≡ Ok layout
+  pub is : input ≡ program_input_of machine version files layout
+
+-- an error of the tables is answered as it is, but for out of memory
+abbrev pub IsRefusalOf : DeriveError → Ran → Type 0
+IsRefusalOf error (Refused answered) = (answered ≡ error) × (error ≢ errors.NoMemory)
+IsRefusalOf error NoMemory = error ≡ errors.NoMemory
+IsRefusalOf error ran = ⊥
+
+-- the answer for an error of reading
+abbrev pub ran_of_reading : ReadError → Ran
+ran_of_reading (read.Unread index) = ReadFault index
+ran_of_reading (read.TooLong index) = FileTooLong index
+ran_of_reading read.NoMemory = NoMemory
+
+-- the report of the tables of these files
+abbrev pub IsReportOfFiles : Architecture → IndexVersion → FilesRead → List ℕ → Type 0
+IsReportOfFiles machine version files text = (index sframe : List ℕ) × (outcome : SframeOutcome) × HasReport (IsInputOfFiles machine version files) index sframe outcome text
+
+-- an answer for the files of `tables`
+abbrev pub IsAnswerFor : Architecture → IndexVersion → FilesRead → Writes → Ran → Type 0
+IsAnswerFor machine version files writes (Done tables) = IsReported (IsInputOfFiles machine version files) tables.index.items tables.sframe.items tables.outcome writes
+IsAnswerFor machine version files writes (Refused error) = IsRefused (IsInputOfFiles machine version files) error × IsSilent writes
+IsAnswerFor machine version files writes (BadLayout line) = (layout_of files.layout.items ≡ Err line) × IsSilent writes
+IsAnswerFor machine version files writes WriteFault = IsCutOff (IsReportOfFiles machine version files) writes
+IsAnswerFor machine version files writes NoMemory = IsNotWritten (IsReportOfFiles machine version files) writes
+IsAnswerFor machine version files writes ran = ⊥
+
+-- memory ran out before the one call with a text, or in it
+abbrev pub IsShortOfMemory : List ℕ → Writes → Type 0
+IsShortOfMemory text writes = (writes.now ≡ writes.written) × ((writes.puts_now ≡ writes.puts) ⊎ IsPutOnce writes text)
+
+-- the report was written, a prefix of it was, or memory ran out before or in the one call
+abbrev pub IsWritingOf : List CuBoundary → List NameWords → List ℕ → List ℕ → SframeOutcome → Writes → Ran → Type 0
+IsWritingOf units names index sframe outcome writes (Done tables) =
+    (tables.index.items ≡ index) × (tables.sframe.items ≡ sframe) × (tables.outcome ≡ outcome) × IsReportWritten writes (report_of units names outcome index sframe)
+IsWritingOf units names index sframe outcome writes WriteFault = IsPrefixWritten writes (report_of units names outcome index sframe)
+IsWritingOf units names index sframe outcome writes NoMemory = IsShortOfMemory (report_of units names outcome index sframe) writes
+IsWritingOf units names index sframe outcome writes ran = ⊥
+
+-- the text of a reply was written, a prefix of it was, or memory ran out before or in the one call
+abbrev pub IsReplyWriting : Reply → List ℕ → Writes → Ran → Type 0
+IsReplyWriting reply text writes WriteFault = IsPrefixWritten writes text
+IsReplyWriting reply text writes NoMemory = IsShortOfMemory text writes
+IsReplyWriting reply text writes ran = (reply_in ran ≡ Some reply) × IsReportWritten writes text
+
+-- the text of a reply of a query for the bytes of its file
+abbrev pub IsTextOfReply : Query → List ℕ → List ℕ → Type 0
+IsTextOfReply query bytes text = (reply : Reply) × IsReply query bytes reply × (reply_text query bytes reply ≡ Some text)
+
+-- there is a reply of a query, and its text was written
+abbrev pub IsReplyOf : Query → List ℕ → Writes → Option Reply → Type 0
+IsReplyOf query bytes writes None = ⊥
+IsReplyOf query bytes writes (Some reply) = IsReply query bytes reply × IsWhole writes (reply_text query bytes reply)
+
+-- an answer for the bytes of the file of a query
+abbrev pub IsQueryAnswer : Query → List ℕ → Writes → Ran → Type 0
+IsQueryAnswer query bytes writes WriteFault = IsCutOff (IsTextOfReply query bytes) writes
+IsQueryAnswer query bytes writes NoMemory = IsNotWritten (IsTextOfReply query bytes) writes
+IsQueryAnswer query bytes writes ran = IsReplyOf query bytes writes (reply_in ran)

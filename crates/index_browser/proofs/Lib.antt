@@ -1,0 +1,12 @@
+pub mod Headers
+pub mod Formats
+pub mod AreaLists
+pub mod ProbeSlots
+pub mod Walks
+pub mod StoredSlots
+pub mod Checking
+pub mod Collecting
+pub mod ProbeAnswers
+pub mod NameOrders
+pub mod Layouts
+pub mod LaidOut

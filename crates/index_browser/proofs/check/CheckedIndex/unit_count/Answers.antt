@@ -1,0 +1,5 @@
+use Rattle.index_browser.proofs.Checking.{units_of_none}
+use Rattle.index_browser.proofs.check.CheckedIndex.unit_count.Goals as goal
+
+pub returns-in-None : goal.returns-in-None
+returns-in-None c = units_of_none c.args.self.now c.in-None.ensures

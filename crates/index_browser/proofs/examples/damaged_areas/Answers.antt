@@ -1,0 +1,32 @@
+-- The definitions compute.
+use Rattle.std.proofs.Common.{refl}
+use lib.Count.{ones}
+use Rattle.elf_format.specs.Bytes.{le, string_at}
+use Rattle.gdb_index_format.specs.Slots.{slot_of}
+use Rattle.gdb_index_format.specs.Units.{index_units}
+use Rattle.gdb_index_format.specs.Version.{header_len, pool_field}
+use Rattle.gdb_index_format.specs.Probe.{table_at, pool_at, slot_count, are_in_order, is_table, index_fault, vector_at, step_in, probe_from, probe}
+use Rattle.index_browser.specs.Areas.{index_addresses}
+use Rattle.index_browser.specs.Stored.{stored_in, last_slot}
+use Rattle.index_browser.specs.Fault.{short_fault, format_fault, types_fault, units_fault, area_fault, stored_fault, order_fault, browse_fault}
+use Rattle.index_browser.proofs.examples.damaged_areas.Goals as goal
+
+pub returns-clause-short : goal.returns-clause-short
+unfolding le string_at probe index_fault are_in_order is_table slot_count pool_at table_at probe_from step_in slot_of vector_at ones header_len pool_field index_units index_addresses stored_in last_slot short_fault format_fault types_fault units_fault area_fault stored_fault order_fault browse_fault
+returns-clause-short c = refl
+
+pub returns-clause-version : goal.returns-clause-version
+unfolding le string_at probe index_fault are_in_order is_table slot_count pool_at table_at probe_from step_in slot_of vector_at ones header_len pool_field index_units index_addresses stored_in last_slot short_fault format_fault types_fault units_fault area_fault stored_fault order_fault browse_fault
+returns-clause-version c = refl
+
+pub returns-clause-types : goal.returns-clause-types
+unfolding le string_at probe index_fault are_in_order is_table slot_count pool_at table_at probe_from step_in slot_of vector_at ones header_len pool_field index_units index_addresses stored_in last_slot short_fault format_fault types_fault units_fault area_fault stored_fault order_fault browse_fault
+returns-clause-types c = refl
+
+pub returns-clause-units : goal.returns-clause-units
+unfolding le string_at probe index_fault are_in_order is_table slot_count pool_at table_at probe_from step_in slot_of vector_at ones header_len pool_field index_units index_addresses stored_in last_slot short_fault format_fault types_fault units_fault area_fault stored_fault order_fault browse_fault
+returns-clause-units c = refl
+
+pub returns-clause-addresses : goal.returns-clause-addresses
+unfolding le string_at probe index_fault are_in_order is_table slot_count pool_at table_at probe_from step_in slot_of vector_at ones header_len pool_field index_units index_addresses stored_in last_slot short_fault format_fault types_fault units_fault area_fault stored_fault order_fault browse_fault
+returns-clause-addresses c = refl

@@ -1,0 +1,5 @@
+use Rattle.index_browser.proofs.Walks.{TestsElements}
+use Rattle.index_browser.proofs.fault.are_elements.Given as goal
+
+abbrev pub invariant-loop-number : goal.invariant-loop-number
+invariant-loop-number l = TestsElements l.index l.at l.count l.units l.number

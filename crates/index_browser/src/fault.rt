@@ -1,0 +1,207 @@
+//! The tests of an index, in their order, and the first that fails.
+
+ghost use Rattle.std.specs.Prelude.{◌≡◌, ◌+◌, ◌*◌, ◌<◌, ◌≤◌, ◌^◌, not, nat_lt, length, map, position};
+ghost use Rattle.std.specs.List.{list_all, range_with_len};
+ghost use Rattle.std.specs.Option.{option_and_then};
+ghost use Rattle.elf_format.specs.Bytes.{u32_at};
+ghost use Rattle.gdb_index_format.specs.Version as format;
+ghost use Rattle.gdb_index_format.specs.Probe.{vector_at};
+ghost use Rattle.index_browser.specs.Areas.{index_addresses, unit_count};
+ghost use Rattle.index_browser.specs.Stored.{stored_in};
+ghost use Rattle.index_browser.specs.Fault as spec;
+ghost use Rattle.index_browser.specs.steps.Offsets.{HasFormat, ArePartsIn};
+ghost use Rattle.index_browser.specs.steps.Placing.{misplaced_fault_at, table_fault as table_fault_spec, parts_fault as parts_fault_spec};
+
+use crate::areas::{count_addresses, count_units, read_address};
+use crate::error::BrowseError;
+use crate::header::{Parts, format_fault, is_short, parts_of};
+use crate::slots::{last_slot, name_from, taken_at};
+use elf_words::read_u32;
+
+/// Returns the number of the first address entry whose unit the CU list does not have.
+fn first_without_unit(index: &[u8], parts: &Parts, units: usize) -> Option<usize>
+    requires format { HasFormat index.now }
+    requires parts { ArePartsIn index.now parts.now }
+    ensures { result ≡ position (λ a. not (nat_lt a.unit units)) (index_addresses index.now) }
+{
+    let count = count_addresses(index, parts);
+    for number in 0..count {
+        let entry = read_address(index, parts.addresses + 20 * number);
+        if entry.unit as usize >= units {
+            return Some(number);
+        }
+    }
+    None
+}
+
+/// Tests the address area: whole entries, each of a unit that is listed.
+#[tactic(auto, unfolding(crate::specs::Fault::area_fault, gdb_index_format::specs::Probe::table_at))]
+fn area_fault(index: &[u8], parts: &Parts, units: usize) -> Option<BrowseError>
+    requires format { HasFormat index.now }
+    requires parts { ArePartsIn index.now parts.now }
+    requires units { units ≡ unit_count index.now }
+    ensures { result ≡ spec.area_fault index.now }
+{
+    let size = parts.table - parts.addresses;
+    if size % 20 != 0 {
+        return Some(BrowseError::AddressArea(size / 20));
+    }
+    first_without_unit(index, parts, units).map(BrowseError::AddressArea)
+}
+
+/// Reports whether an element of a CU vector keeps its reserved bits zero and names one of so many units.
+fn is_element(element: u32, units: usize) -> bool
+    ensures { result ≡ spec.is_element units element }
+{
+    element / 0x100_0000 % 16 == 0 && ((element % 0x100_0000) as usize) < units
+}
+
+/// Reports whether so many elements from an offset on are such.
+fn are_elements(index: &[u8], at: usize, count: usize, units: usize) -> bool
+    requires within { at + 4 * count ≤ length index.now }
+    requires small { at < 2 ^ 34 }
+    requires few { count < 2 ^ 32 }
+    ensures { result ≡ list_all (spec.is_element units) (map (λ k. u32_at index.now (at + 4 * k)) (range_with_len 0 count)) }
+{
+    for number in 0..count {
+        if !is_element(read_u32(index, at + 4 * number), units) {
+            return false;
+        }
+    }
+    true
+}
+
+/// Tests the CU vector at an offset, which is that of a slot.
+#[tactic(auto, unfolding(gdb_index_format::specs::Probe::vector_at))]
+fn vector_fault(index: &[u8], at: usize, units: usize, slot: usize) -> Option<BrowseError>
+    requires { at < 2 ^ 33 }
+    ensures { result ≡ spec.vector_fault units slot (vector_at index.now at) }
+{
+    if index.len() < at + 4 {
+        return Some(BrowseError::VectorOutside(slot));
+    }
+    let count = read_u32(index, at) as usize;
+    if index.len() < at + 4 + 4 * count {
+        return Some(BrowseError::VectorOutside(slot));
+    }
+    if count > 0 && are_elements(index, at + 4, count, units) {
+        None
+    } else {
+        Some(BrowseError::BadVector(slot))
+    }
+}
+
+/// Tests the name and the CU vector of a slot, where it is taken.
+fn slot_fault(index: &[u8], parts: &Parts, units: usize, slot: usize) -> Option<BrowseError>
+    requires parts { ArePartsIn index.now parts.now }
+    requires within { slot < parts.now.slots }
+    ensures { result ≡ option_and_then (spec.slot_fault units) (stored_in index.now slot) }
+{
+    let Some(taken) = taken_at(index, parts, slot) else {
+        return None;
+    };
+    let Some(_name) = name_from(index, taken.name) else {
+        return Some(BrowseError::NameOutside(slot));
+    };
+    vector_fault(index, taken.vector, units, slot)
+}
+
+/// Tests the names and the CU vectors of all slots.
+#[tactic(auto, unfolding(crate::specs::Fault::stored_fault))]
+fn stored_fault(index: &[u8], parts: &Parts, units: usize) -> Option<BrowseError>
+    requires parts { ArePartsIn index.now parts.now }
+    requires units { units ≡ unit_count index.now }
+    ensures { result ≡ spec.stored_fault index.now }
+{
+    for slot in 0..parts.slots {
+        if let Some(fault) = slot_fault(index, parts, units, slot) {
+            return Some(fault);
+        }
+    }
+    None
+}
+
+/// Tests whether the probe for the name of a slot ends there, where the slot is taken.
+fn misplaced_fault(index: &[u8], parts: &Parts, slot: usize) -> Option<BrowseError>
+    requires format { HasFormat index.now }
+    requires parts { ArePartsIn index.now parts.now }
+    requires within { slot < parts.now.slots }
+    ensures { result ≡ option_and_then (misplaced_fault_at index.now) (stored_in index.now slot) }
+{
+    let Some(taken) = taken_at(index, parts, slot) else {
+        return None;
+    };
+    let Some(name) = name_from(index, taken.name) else {
+        return None;
+    };
+    if last_slot(index, parts, name) == slot {
+        None
+    } else {
+        Some(BrowseError::Misplaced(slot))
+    }
+}
+
+/// Tests whether the probes for the names of all slots end there.
+#[tactic(auto, unfolding(crate::specs::Fault::order_fault))]
+fn order_fault(index: &[u8], parts: &Parts) -> Option<BrowseError>
+    requires format { HasFormat index.now }
+    requires parts { ArePartsIn index.now parts.now }
+    ensures { result ≡ spec.order_fault index.now }
+{
+    for slot in 0..parts.slots {
+        if let Some(fault) = misplaced_fault(index, parts, slot) {
+            return Some(fault);
+        }
+    }
+    None
+}
+
+/// Tests the symbol hash table.
+fn table_fault(index: &[u8], parts: &Parts, units: usize) -> Option<BrowseError>
+    requires format { HasFormat index.now }
+    requires parts { ArePartsIn index.now parts.now }
+    requires units { units ≡ unit_count index.now }
+    ensures { result ≡ table_fault_spec index.now }
+{
+    match stored_fault(index, parts, units) {
+        Some(fault) => Some(fault),
+        None => order_fault(index, parts),
+    }
+}
+
+/// Tests the parts of an index in which probes can be made.
+#[tactic(auto, unfolding(crate::specs::Fault::types_fault, crate::specs::Fault::units_fault))]
+fn parts_fault(index: &[u8]) -> Option<BrowseError>
+    requires { HasFormat index.now }
+    ensures { result ≡ parts_fault_spec index.now }
+{
+    let parts = parts_of(index);
+    if parts.types != parts.addresses {
+        return Some(BrowseError::TypeUnits);
+    }
+    if (parts.types - parts.units) % 16 != 0 {
+        return Some(BrowseError::UnitArea);
+    }
+    let units = count_units(index, &parts);
+    match area_fault(index, &parts, units) {
+        Some(fault) => Some(fault),
+        None => table_fault(index, &parts, units),
+    }
+}
+
+/// Returns the first test that an index fails.
+#[tactic(auto, unfolding(crate::specs::Fault::browse_fault, crate::specs::Fault::short_fault, crate::specs::Fault::format_fault))]
+pub(crate) fn first_fault(index: &[u8]) -> Option<BrowseError>
+    ensures { result ≡ spec.browse_fault index.now }
+{
+    if index.is_empty() {
+        return None;
+    }
+    if is_short(index) {
+        return Some(BrowseError::Short);
+    }
+    match format_fault(index) {
+        Some(fault) => Some(BrowseError::Format(fault)),
+        None => parts_fault(index),
+    }
+}

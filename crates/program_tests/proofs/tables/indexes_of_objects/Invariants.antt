@@ -1,4 +1,0 @@
-use Rattle.program_tests.proofs.tables.indexes_of_objects.Given as goal
-
-abbrev pub ghosts-find : goal.ghosts-find
-ghosts-find g a = record { name = a.blank.name; parts = a.blank.parts }

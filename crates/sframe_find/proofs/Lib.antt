@@ -1,0 +1,7 @@
+pub mod Functions
+pub mod Whole
+pub mod Searching
+pub mod OneCause
+pub mod Sorted
+pub mod Descending
+pub mod Compared
