@@ -16,7 +16,7 @@ use gdb_index_format::{AddressEntry, CuBoundary};
 use std::marker::Model;
 
 /// An index that passed all tests, or has no bytes. Contracts see it as its bytes.
-#[derive(Debug)]
+#[derive(Debug, Drop)]
 pub struct CheckedIndex<'a> {
     bytes: &'a [u8],
 }
