@@ -86,7 +86,7 @@ address_number b = (u32_at b 16 - u32_at b 12) / 20
 twenty : (n k : ℕ) → k < n / 20 → 20 * k + 20 ≤ n
 twenty n k below = omega (arith, below)
 
-same_entry : (u v : AddressEntry) → u.low ≡ v.low → u.high ≡ v.high → u.unit ≡ v.unit → u ≡ v
+pub same_entry : (u v : AddressEntry) → u.low ≡ v.low → u.high ≡ v.high → u.unit ≡ v.unit → u ≡ v
 same_entry u v p q r = grind arith
 
 pub addresses_are : (b : List ℕ) → HasFormat b → index_addresses b ≡ map (λ k. address_from b (u32_at b 12 + 20 * k)) (range_with_len 0 (address_number b))

@@ -1,18 +1,18 @@
 -- An index that is laid out passes its tests.
-use Rattle.std.proofs.Common.{◌≡◌, ◌≢◌, ℕ, ◌+◌, ◌-◌, ◌*◌, ◌/◌, ◌%◌, ◌^◌, ◌<◌, ◌≤◌, Bool, true, false, cond, List, [], ◌∷◌, length, get_or, map, Option, Some, None, Result, Ok, refl, sym, ap, subst, ◌∙◌, arith, inl, inr}
+use Rattle.std.proofs.Common.{◌≡◌, ℕ, ◌+◌, ◌-◌, ◌*◌, ◌/◌, ◌%◌, ◌^◌, ◌<◌, ◌≤◌, Bool, true, false, cond, List, [], length, get_or, Option, Some, None, Ok, refl, sym, ap, subst, ◌∙◌, arith, inl, inr}
 use Rattle.std.specs.Prelude.{option_map}
 use Rattle.std.specs.Str.{bytes_eq}
-use Rattle.std.specs.List.{All, Contains, range_with_len}
+use Rattle.std.specs.List.{All}
 use Rattle.std.proofs.lemmas.List.{get_or_default}
-use Rattle.std.proofs.lemmas.List.FromFn.{length-map-range_with_len, get_or-map-range_with_len}
+use Rattle.std.proofs.lemmas.List.FromFn.{get_or-map-range_with_len}
 use Rattle.std.proofs.lemmas.Slice.Eq.{bytes_eq-Decides}
-use Rattle.elf_format.specs.Bytes.{u32_at, string_at}
+use Rattle.elf_format.specs.Bytes.{u32_at}
 use Rattle.gdb_index_format.specs.declared.placement.AddressEntry.{AddressEntry}
-use Rattle.gdb_index_format.specs.Named.{Named, AreDistinct}
+use Rattle.gdb_index_format.specs.Named.{Named}
 use Rattle.gdb_index_format.specs.Version.{version_number}
-use Rattle.gdb_index_format.specs.Probe.{Ends, Passes, pool_at, slot_count, vector_at, step_in, step_named, probe}
+use Rattle.gdb_index_format.specs.Probe.{Ends, Passes, pool_at, slot_count, vector_at, step_in, step_named}
 use Rattle.gdb_index.specs.Scan.{Scan, IsWellFormedScan, unit_number}
-use Rattle.gdb_index.specs.Pool.{vector_offset, name_offset}
+use Rattle.gdb_index.specs.Pool.{vector_offset}
 use Rattle.gdb_index.proofs.Filling.{contains_or_lacks}
 use Rattle.gdb_index.proofs.Holding.{Answered}
 use Rattle.gdb_index.proofs.Indexes.{answered}
@@ -22,9 +22,9 @@ use Rattle.index_browser.specs.Areas.{index_addresses, unit_count}
 use Rattle.index_browser.specs.Stored.{StoredSlot, stored_in, stored, last_slot}
 use Rattle.index_browser.specs.Checked.{IsElement, IsWellStored, PassesTests}
 use Rattle.index_browser.specs.Laws.{LayoutIsChecked}
-use Rattle.index_browser.specs.steps.Offsets.{HasFormat, address_from}
+use Rattle.index_browser.specs.steps.Offsets.{address_from}
 use Rattle.index_browser.specs.steps.Taken.{taken_in}
-use Rattle.index_browser.proofs.AreaLists.{unit_number as units_between, unit_count_is, addresses_are, address_number, address_count_is}
+use Rattle.index_browser.proofs.AreaLists.{unit_count_is, addresses_are, address_number, address_count_is}
 use Rattle.index_browser.proofs.ProbeSlots.{step_of, step_is_of}
 use Rattle.index_browser.proofs.StoredSlots.{stored_of, stored_is}
 use Rattle.index_browser.proofs.ProbeAnswers.{answer_of, answer_at_last, last_below, to_range}

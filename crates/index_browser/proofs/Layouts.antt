@@ -1,8 +1,8 @@
 -- What stands where in an index that is laid out: the header's offsets, the units of its address entries, and what each slot
 -- holds.
-use Rattle.std.proofs.Common.{◌≡◌, ◌⊎◌, ℕ, zero, suc, ◌+◌, ◌*◌, ◌^◌, ◌<◌, ◌≤◌, Bool, true, false, cond, eqb, List, [], ◌∷◌, ◌++◌, length, take, get_or, Option, Some, None, Ok, refl, sym, ap, subst, ◌∙◌, arith, inl, inr}
-use Rattle.std.specs.Prelude.{replicate, ◌&&◌}
-use Rattle.std.specs.List.{All, Contains, flat_map, sum_by}
+use Rattle.std.proofs.Common.{◌≡◌, ◌⊎◌, ℕ, zero, suc, ◌+◌, ◌*◌, ◌^◌, ◌<◌, ◌≤◌, true, cond, eqb, List, [], ◌∷◌, ◌++◌, length, take, get_or, Some, None, Ok, refl, sym, ap, subst, ◌∙◌, arith, inl, inr}
+use Rattle.std.specs.Prelude.{replicate}
+use Rattle.std.specs.List.{Contains, flat_map, sum_by}
 use Rattle.std.specs.Int.{w32, w64, to_le_bytes, IsPowerOfTwo}
 use Rattle.std.proofs.lemmas.Bool.{and_left, and_from, eq-eqb, ne_eqb}
 use Rattle.std.proofs.lemmas.List.{length-append, append-nil, length-replicate, length-take-le}
@@ -16,7 +16,7 @@ use Rattle.gdb_index_format.specs.Slots.{IsSlotCount}
 use Rattle.gdb_index_format.specs.Probe.{table_at, pool_at, slot_count, vector_at}
 use Rattle.gdb_index.specs.Scan.{Scan, IsWellFormedScan}
 use Rattle.gdb_index.specs.Table.{Slot, free_slot, table_bytes}
-use Rattle.gdb_index.specs.Pool.{vectors_len, names_len, vector_offset, name_offset}
+use Rattle.gdb_index.specs.Pool.{vectors_len, vector_offset, name_offset}
 use Rattle.gdb_index.specs.Layout.{u32s_bytes, unit_bytes, address_bytes, vector_bytes, name_bytes, addresses_offset, hash_table_offset, shortcuts_offset, pool_offset, header_numbers, IsLayoutOf}
 use Rattle.gdb_index.proofs.Standing.{StandsAt, StandsAt-left, StandsAt-right, StandsAt-within, StandsAt-item, u32_at-words, u32_at-stands, vector_at-stands, string_at-stands}
 use Rattle.gdb_index.proofs.SlotLists.{length-table, slot_stands}
@@ -30,14 +30,14 @@ use Rattle.index_browser.specs.steps.Taken.{taken_in}
 
 -- ---- the parts
 
-record Parts (v : ℕ) (b : List ℕ) (s : Scan) (xs : List AddressEntry) (slots : ℕ) (table : List Slot) : Type 0 where
-  head : StandsAt b 0 (u32s_bytes (header_numbers v (length s.units) (length xs) slots))
-  entries : StandsAt b (addresses_offset v (length s.units)) (flat_map address_bytes xs)
-  slots_stand : StandsAt b (hash_table_offset v (length s.units) (length xs)) (table_bytes table)
-  vectors : StandsAt b (pool_offset v (length s.units) (length xs) slots) (flat_map vector_bytes s.names)
-  names : StandsAt b (pool_offset v (length s.units) (length xs) slots + vectors_len s.names) (flat_map name_bytes s.names)
+pub record Parts (v : ℕ) (b : List ℕ) (s : Scan) (xs : List AddressEntry) (slots : ℕ) (table : List Slot) : Type 0 where
+  pub head : StandsAt b 0 (u32s_bytes (header_numbers v (length s.units) (length xs) slots))
+  pub entries : StandsAt b (addresses_offset v (length s.units)) (flat_map address_bytes xs)
+  pub slots_stand : StandsAt b (hash_table_offset v (length s.units) (length xs)) (table_bytes table)
+  pub vectors : StandsAt b (pool_offset v (length s.units) (length xs) slots) (flat_map vector_bytes s.names)
+  pub names : StandsAt b (pool_offset v (length s.units) (length xs) slots + vectors_len s.names) (flat_map name_bytes s.names)
 
-parts_of : (v : ℕ) (b : List ℕ) (s : Scan) (xs : List AddressEntry) (i : IsLayoutOf v s xs b) → Parts v b s xs i.slots i.table
+pub parts_of : (v : ℕ) (b : List ℕ) (s : Scan) (xs : List AddressEntry) (i : IsLayoutOf v s xs b) → Parts v b s xs i.slots i.table
 parts_of v b s xs i =
     let h = u32s_bytes (header_numbers v (length s.units) (length xs) i.slots) in
     let u = flat_map unit_bytes s.units in
@@ -79,10 +79,10 @@ header_word : (v : ℕ) (b : List ℕ) (s : Scan) (xs : List AddressEntry) (slot
 header_word v b s xs slots table p k n l is fits =
     u32_at-words b 0 (header_numbers v (length s.units) (length xs) slots) k 0 l (omega (arith, is, fits)) p.head ∙ is
 
-abbrev Header : ℕ → List ℕ → Scan → List AddressEntry → ℕ → Type 0
+abbrev pub Header : ℕ → List ℕ → Scan → List AddressEntry → ℕ → Type 0
 Header v b s xs slots = IsHeader v b (header_len v) (addresses_offset v (length s.units)) (addresses_offset v (length s.units)) (hash_table_offset v (length s.units) (length xs)) (shortcuts_offset v (length s.units) (length xs) slots) (pool_offset v (length s.units) (length xs) slots)
 
-header_is : (v : ℕ) (b : List ℕ) (s : Scan) (xs : List AddressEntry) (slots : ℕ) (table : List Slot) → is_known v ≡ true → length b < 2 ^ 32 → Parts v b s xs slots table → Header v b s xs slots
+pub header_is : (v : ℕ) (b : List ℕ) (s : Scan) (xs : List AddressEntry) (slots : ℕ) (table : List Slot) → is_known v ≡ true → length b < 2 ^ 32 → Parts v b s xs slots table → Header v b s xs slots
 header_is v b s xs slots table known small p =
     let pool = pool_offset v (length s.units) (length xs) slots in
     let shortcuts = shortcuts_offset v (length s.units) (length xs) slots in
@@ -132,7 +132,7 @@ pub record Laid (b : List ℕ) (s : Scan) (xs : List AddressEntry) (used : List 
   pub names : (k : ℕ) (d : Named) → k < length s.names → string_at b (pool_at b + name_offset s.names k) ≡ Some (get_or s.names k d).name
   pub vectors : (k : ℕ) (d : Named) → k < length s.names → vector_at b (pool_at b + vector_offset s.names k) ≡ Ok (Some (get_or s.names k d).words)
 
-sum_entries : (xs : List AddressEntry) → sum_by (λ a. length (address_bytes a)) xs ≡ 20 * length xs
+pub sum_entries : (xs : List AddressEntry) → sum_by (λ a. length (address_bytes a)) xs ≡ 20 * length xs
 sum_entries [] = refl
 sum_entries (x ∷ xs) = omega (arith, sum_by-cons (λ (a : AddressEntry). length (address_bytes a)) x xs, sum_entries xs)
 

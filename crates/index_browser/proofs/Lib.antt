@@ -10,3 +10,5 @@ pub mod ProbeAnswers
 pub mod NameOrders
 pub mod Layouts
 pub mod LaidOut
+pub mod Found
+pub mod ListedAddresses

@@ -23,9 +23,9 @@ use Rattle.std.proofs.lemmas.Slice.Eq.{bytes_eq-Decides}
 use Rattle.gdb_index_format.specs.Named.{Named, names_in}
 use Rattle.gdb_index_format.specs.Probe.{probe, probe_from, step_at, slot_count, index_fault, unless_fault}
 use Rattle.index_browser.specs.Checked.{PassesTests}
-use Rattle.index_browser.specs.NameList.{IsNameListOf, IsNameListWith, has_prefix}
+use Rattle.index_browser.specs.NameList.{IsNameListOf, IsNameListWith, elements_in, has_prefix}
 use Rattle.index_browser.specs.Laws.{NameListsAreOne}
-use Rattle.index_browser.specs.steps.Listing.{taken_names, shown_names, HasVector, elements_in, named_by, AreNamesIn}
+use Rattle.index_browser.specs.steps.Listing.{taken_names, shown_names, HasVector, named_by, AreNamesIn}
 use Rattle.index_browser.proofs.Headers.{header_len-least}
 use Rattle.index_browser.proofs.Collecting.{begins_with}
 use Rattle.index_browser.proofs.ProbeAnswers.{names_have_vectors, names_differ, others_are_absent}
@@ -134,7 +134,7 @@ pub listed_all : (b : List ℕ) (entries : List Named) → IsNameListWith b [] e
 listed_all b entries (all, list, is) = subst (IsNameListOf b) (sym (is ∙ no_prefix all)) list
 
 -- bytes of length 0 hold no name
-nothing_in : (b name : List ℕ) → b ≡ [] → (probe b name).answer ≡ Ok None
+pub nothing_in : (b name : List ℕ) → b ≡ [] → (probe b name).answer ≡ Ok None
 unfolding probe
 nothing_in b name empty =
     ap (λ t. (cond t (record { answer = Ok None; steps = 0 }) (unless_fault (index_fault b) (probe_from (step_at b name) (slot_count b) 0))).answer)

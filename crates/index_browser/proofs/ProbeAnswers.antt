@@ -140,7 +140,7 @@ found_slot b s t p below taken =
 same_name : (b name stored : List ℕ) (at : ℕ) → stored ≡ name → step_named b name at (Some stored) ≡ Ends (vector_at b at)
 same_name b name stored at same = ap (λ x. cond x (Ends (vector_at b at)) Passes) ((bytes_eq-Decides stored name).1 same)
 
-has_format : (b : List ℕ) → PassesTests b → HasFormat b
+pub has_format : (b : List ℕ) → PassesTests b → HasFormat b
 has_format b p = record { long = p.long; format = p.format }
 
 -- the name of a slot is found, with its elements

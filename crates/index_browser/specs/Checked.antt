@@ -3,7 +3,7 @@ use Rattle.std.specs.Prelude.{◌≡◌, ◌≢◌, ◌⊎◌, ℕ, ◌-◌, ◌
 use Rattle.std.specs.List.{All}
 use Rattle.elf_format.specs.Bytes.{u32_at}
 use Rattle.gdb_index_format.specs.Version.{header_len}
-use Rattle.gdb_index_format.specs.Probe.{index_fault}
+use Rattle.gdb_index_format.specs.Probe.{index_fault, probe}
 use Rattle.index_browser.specs.Areas.{index_addresses, unit_count}
 use Rattle.index_browser.specs.Stored.{StoredSlot, stored, last_slot}
 
@@ -36,3 +36,15 @@ pub record PassesTests (b : List ℕ) : Type 0 where
 -- An index that can be browsed. One without a unit may have no bytes.
 abbrev pub IsChecked : List ℕ → Type 0
 IsChecked b = (b ≡ []) ⊎ PassesTests b
+
+-- A name that a probe finds in an index that can be browsed, with its CU vector: no zero byte stands in the name, and the
+-- vector has elements, each well formed.
+pub record IsFoundName (b name elements : List ℕ) : Type 0 where
+  pub no_zero : All (λ c. c ≢ 0) name
+  pub some : elements ≢ []
+  pub well_formed : All (IsElement (unit_count b)) elements
+
+-- what holds of an index that can be browsed
+pub record IsWellFormedIndex (b : List ℕ) : Type 0 where
+  pub units_exist : All (λ a. a.unit < unit_count b) (index_addresses b)
+  pub found : (name elements : List ℕ) → (probe b name).answer ≡ Ok (Some elements) → IsFoundName b name elements

@@ -1,9 +1,10 @@
 -- The names of an index, in byte order.
-use Rattle.std.specs.Prelude.{◌≡◌, ◌==◌, ℕ, Bool, List, map, Some, None, Ok}
+use Rattle.std.specs.Prelude.{◌≡◌, ◌==◌, ℕ, Bool, List, [], map, Option, Some, None, Result, Ok, Err}
 use Rattle.std.specs.List.{All, Contains, filter, starts_with}
 use Rattle.std.specs.List.Sorted.{IsStrictlySortedBy}
 use Rattle.std.specs.Cmp.Lexicographic.{slice_cmp}
 use Rattle.std.specs.Ordering.{nat_cmp}
+use Rattle.gdb_index_format.specs.declared.bad_index.BadIndex.{BadIndex}
 use Rattle.gdb_index_format.specs.Named.{Named, names_in}
 use Rattle.gdb_index_format.specs.Probe.{probe}
 use Rattle.index_browser.specs.declared.names.NameEntry.{NameEntry}
@@ -29,3 +30,13 @@ has_prefix prefix n = starts_with (λ x y. x == y) n.name prefix
 -- the names of an index that begin with a prefix
 abbrev pub IsNameListWith : List ℕ → List ℕ → List Named → Type 0
 IsNameListWith b prefix ns = (all : List Named) × IsNameListOf b all × (ns ≡ filter (has_prefix prefix) all)
+
+-- the elements in the answer of a probe
+abbrev pub elements_in : Result (Option (List ℕ)) BadIndex → List ℕ
+elements_in (Ok (Some elements)) = elements
+elements_in (Ok None) = []
+elements_in (Err fault) = []
+
+-- the elements of the CU vector that an index holds for a name: none where it holds no such name
+abbrev pub elements_of : List ℕ → List ℕ → List ℕ
+elements_of b name = elements_in (probe b name).answer

@@ -52,7 +52,8 @@ pub fn check_index(index: &[u8]) -> Result<CheckedIndex<'_>, BrowseError>
 impl<'a> CheckedIndex<'a> {
     /// Returns the bytes of the index.
     pub fn bytes(&self) -> &'a [u8]
-        ensures { result.now ≡ self.now }
+        ensures bytes { result.now ≡ self.now }
+        ensures checked { IsChecked self.now }
     {
         self.bytes
     }

@@ -16,5 +16,8 @@ mod slots;
 pub use check::{CheckedIndex, check_index};
 pub use error::BrowseError;
 pub use examples::{damaged_areas, damaged_slots, small_indexes_pass};
-pub use laws::{checked_has_no_fault, layout_is_checked, name_lists_are_one};
+pub use laws::{
+    checked_has_no_fault, checked_is_well_formed, layout_is_checked, layout_lists_addresses,
+    name_lists_are_one,
+};
 pub use names::NameEntry;

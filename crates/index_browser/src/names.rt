@@ -1,6 +1,6 @@
 //! Lists the names of an index in byte order.
 
-ghost use Rattle.std.specs.Prelude.{◌≡◌, ◌==◌, ◌<◌, IfOk, OnOk, IfSome, map, MatchOption, IsPermutation, IsSorted};
+ghost use Rattle.std.specs.Prelude.{◌≡◌, ◌==◌, ◌<◌, ◌≤◌, ◌^◌, length, IfOk, OnOk, IfSome, map, MatchOption, IsPermutation, IsSorted};
 ghost use Rattle.std.specs.List.{All, filter, starts_with};
 ghost use Rattle.std.specs.Option.{option_copied};
 ghost use Rattle.std.specs.Cmp.Lexicographic.{slice_cmp};
@@ -45,7 +45,8 @@ fn names_by_slot<'a>(
     parts: &Parts,
 ) -> Result<Vec<&'a [u8]>, AllocError>
     requires { ArePartsIn index.now parts.now }
-    ensures { IfOk result (λ v. shown_names v.items ≡ taken_names index.now) }
+    ensures names { IfOk result (λ v. shown_names v.items ≡ taken_names index.now) }
+    ensures few { IfOk result (λ v. length v.items ≤ parts.now.slots) }
 {
     let mut names = Vec::new(alloc);
     for slot in 0..parts.slots {
@@ -73,7 +74,8 @@ fn sorted_names<'a>(
 ) -> Result<Vec<&'a [u8]>, AllocError>
     requires parts { ArePartsIn index.now parts.now }
     requires passes { PassesTests index.now }
-    ensures { IfOk result (λ v. AreNamesIn index.now (shown_names v.items)) }
+    ensures names { IfOk result (λ v. AreNamesIn index.now (shown_names v.items)) }
+    ensures few { IfOk result (λ v. length v.items < 2 ^ 29) }
 {
     let mut names = names_by_slot(alloc, index, parts)?;
     sort_names(&mut names)?;
@@ -99,7 +101,8 @@ fn entries_of<'a>(
     prefix: &[u8],
 ) -> Result<Vec<NameEntry<'a>>, AllocError>
     requires { All (HasVector index.now) (shown_names names.now) }
-    ensures { IfOk result (λ v. all_listed v.items ≡ map (named_by index.now) (filter (λ n. starts_with (λ x y. x == y) n prefix.now) (shown_names names.now))) }
+    ensures entries { IfOk result (λ v. all_listed v.items ≡ map (named_by index.now) (filter (λ n. starts_with (λ x y. x == y) n prefix.now) (shown_names names.now))) }
+    ensures few { IfOk result (λ v. length v.items ≤ length names.now) }
 {
     let mut entries = Vec::new(alloc);
     for name in names {
@@ -112,9 +115,11 @@ fn entries_of<'a>(
 
 impl<'a> CheckedIndex<'a> {
     /// Returns the names that the index holds, ascending by their bytes, each once and with its CU vector. No other byte
-    /// string is found in the index.
+    /// string is found in the index. There are fewer than 2^29 of them, since the offsets of the symbol hash table have four
+    /// bytes.
     pub fn names(&self, alloc: Global) -> Result<Vec<NameEntry<'a>>, AllocError>
-        ensures { IfOk result (λ v. IsNameListOf self.now (all_listed v.items)) }
+        ensures names { IfOk result (λ v. IsNameListOf self.now (all_listed v.items)) }
+        ensures few { IfOk result (λ v. length v.items < 2 ^ 29) }
     {
         let entries = self.names_with_prefix(alloc, &[])?;
         Ok(entries)
@@ -126,7 +131,8 @@ impl<'a> CheckedIndex<'a> {
         alloc: Global,
         prefix: &[u8],
     ) -> Result<Vec<NameEntry<'a>>, AllocError>
-        ensures { IfOk result (λ v. IsNameListWith self.now prefix.now (all_listed v.items)) }
+        ensures names { IfOk result (λ v. IsNameListWith self.now prefix.now (all_listed v.items)) }
+        ensures few { IfOk result (λ v. length v.items < 2 ^ 29) }
     {
         let Some(parts) = self.parts() else {
             return Ok(Vec::new(alloc));

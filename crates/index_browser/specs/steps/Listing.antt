@@ -1,6 +1,6 @@
 -- Private steps: only private contracts cite this module.
 -- The names of the slots, and the CU vectors that their probes find.
-use Rattle.std.specs.Prelude.{◌≡◌, ℕ, List, [], map, Option, Some, None, Result, Ok, Err}
+use Rattle.std.specs.Prelude.{◌≡◌, ℕ, List, map, Option, Some, None, Ok}
 use Rattle.std.specs.Borrow.{Bor}
 use Rattle.std.specs.List.{All, Contains, filter_map, range_with_len}
 use Rattle.std.specs.List.Sorted.{IsStrictlySortedBy}
@@ -8,10 +8,10 @@ use Rattle.std.specs.Cmp.Lexicographic.{slice_cmp}
 use Rattle.std.specs.Ordering.{nat_cmp}
 use Rattle.std.specs.Option.{option_and_then}
 use Rattle.elf_format.specs.Bytes.{string_at}
-use Rattle.gdb_index_format.specs.declared.bad_index.BadIndex.{BadIndex}
 use Rattle.gdb_index_format.specs.Named.{Named}
 use Rattle.gdb_index_format.specs.Probe.{slot_count, probe}
 use Rattle.index_browser.specs.declared.slots.Taken.{Taken}
+use Rattle.index_browser.specs.NameList.{elements_of}
 use Rattle.index_browser.specs.steps.Taken.{taken_in}
 
 -- the name of a slot, where it is taken
@@ -29,14 +29,8 @@ shown_names names = map (λ (n : Bor (List ℕ)). n.now) names
 abbrev pub HasVector : List ℕ → List ℕ → Type 0
 HasVector b name = (elements : List ℕ) × ((probe b name).answer ≡ Ok (Some elements))
 
--- the elements in the answer of a probe
-abbrev pub elements_in : Result (Option (List ℕ)) BadIndex → List ℕ
-elements_in (Ok (Some elements)) = elements
-elements_in (Ok None) = []
-elements_in (Err fault) = []
-
 abbrev pub named_by : List ℕ → List ℕ → Named
-named_by b name = record { name = name; words = elements_in (probe b name).answer }
+named_by b name = record { name = name; words = elements_of b name }
 
 -- the names of an index, ascending by their bytes, each once
 pub record AreNamesIn (b : List ℕ) (names : List (List ℕ)) : Type 0 where

@@ -28,7 +28,7 @@ pub record ArePartsIn (b : List ℕ) (p : Parts) : Type 0 where
   pub third : p.addresses ≤ p.table
   pub fourth : p.table + 8 * p.slots ≤ length b
   pub low : p.table < 2 ^ 32
-  pub few : p.slots < 2 ^ 32
+  pub few : p.slots < 2 ^ 29
   pub small : p.pool < 2 ^ 32
 
 -- the unit, and the address entry, that stand at an offset
