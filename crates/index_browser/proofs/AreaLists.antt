@@ -13,9 +13,8 @@ use Rattle.gdb_index_format.specs.declared.placement.AddressEntry.{AddressEntry}
 use Rattle.gdb_index_format.specs.Version.{is_known, header_len}
 use Rattle.gdb_index_format.specs.Units.{unit_in, index_units}
 use Rattle.index_browser.specs.Areas.{address_in, index_addresses, unit_count}
-use Rattle.index_browser.specs.steps.Offsets.{HasFormat, ArePartsIn, unit_from, address_from}
-use Rattle.index_browser.specs.declared.header.Parts.{Parts}
-use Rattle.gdb_index_format.specs.Probe.{table_at}
+use Rattle.index_browser.specs.steps.Offsets.{HasFormat, AreAreasOf, unit_from, address_from}
+use Rattle.index_browser.specs.declared.areas.Areas.{Areas}
 use Rattle.index_browser.proofs.Headers.{ordered}
 
 -- ---- records, by the offsets at which they begin
@@ -116,25 +115,24 @@ entry_is all g n k is below =
 
 -- ---- the code's counts and offsets
 
-pub units_counted : (b : List ℕ) (p : Parts) → HasFormat b → ArePartsIn b p → (p.types - p.units) / 16 ≡ unit_count b
-units_counted b p h parts = ap (λ n. (n - p.units) / 16) parts.types ∙ ap (λ n. (u32_at b 8 - n) / 16) parts.units ∙ sym (unit_count_is b h)
+pub units_counted : (b : List ℕ) (a : Areas) → HasFormat b → AreAreasOf b a → (a.types - a.units) / 16 ≡ unit_count b
+units_counted b a h areas = ap (λ n. (n - a.units) / 16) areas.types ∙ ap (λ n. (u32_at b 8 - n) / 16) areas.units ∙ sym (unit_count_is b h)
 
-pub addresses_counted : (b : List ℕ) (p : Parts) → HasFormat b → ArePartsIn b p → (p.table - p.addresses) / 20 ≡ length (index_addresses b)
-unfolding table_at
-addresses_counted b p h parts = ap (λ n. (n - p.addresses) / 20) parts.table ∙ ap (λ n. (u32_at b 16 - n) / 20) parts.addresses ∙ sym (address_count_is b h)
+pub addresses_counted : (b : List ℕ) (a : Areas) → HasFormat b → AreAreasOf b a → (a.end - a.addresses) / 20 ≡ length (index_addresses b)
+addresses_counted b a h areas = ap (λ n. (n - a.addresses) / 20) areas.end ∙ ap (λ n. (u32_at b 16 - n) / 20) areas.addresses ∙ sym (address_count_is b h)
 
-pub unit_within : (b : List ℕ) (p : Parts) (k : ℕ) → HasFormat b → ArePartsIn b p → k < unit_count b → p.units + 16 * k + 16 ≤ p.types
-unit_within b p k h parts below = omega (arith, sixteen (p.types - p.units) k (subst (λ n. k < n) (sym (units_counted b p h parts)) below), parts.first)
+pub unit_within : (b : List ℕ) (a : Areas) (k : ℕ) → HasFormat b → AreAreasOf b a → k < unit_count b → a.units + 16 * k + 16 ≤ a.types
+unit_within b a k h areas below = omega (arith, sixteen (a.types - a.units) k (subst (λ n. k < n) (sym (units_counted b a h areas)) below), areas.first)
 
-pub address_within : (b : List ℕ) (p : Parts) (k : ℕ) → HasFormat b → ArePartsIn b p → k < length (index_addresses b) → p.addresses + 20 * k + 20 ≤ p.table
-address_within b p k h parts below = omega (arith, twenty (p.table - p.addresses) k (subst (λ n. k < n) (sym (addresses_counted b p h parts)) below), parts.third)
+pub address_within : (b : List ℕ) (a : Areas) (k : ℕ) → HasFormat b → AreAreasOf b a → k < length (index_addresses b) → a.addresses + 20 * k + 20 ≤ a.end
+address_within b a k h areas below = omega (arith, twenty (a.end - a.addresses) k (subst (λ n. k < n) (sym (addresses_counted b a h areas)) below), areas.third)
 
-pub unit_is : (b : List ℕ) (p : Parts) (k : ℕ) → HasFormat b → ArePartsIn b p → k < unit_count b → Some (unit_from b (p.units + 16 * k)) ≡ slice_get (index_units b) k
-unit_is b p k h parts below =
-    ap (λ n. Some (unit_from b (n + 16 * k))) parts.units
+pub unit_is : (b : List ℕ) (a : Areas) (k : ℕ) → HasFormat b → AreAreasOf b a → k < unit_count b → Some (unit_from b (a.units + 16 * k)) ≡ slice_get (index_units b) k
+unit_is b a k h areas below =
+    ap (λ n. Some (unit_from b (n + 16 * k))) areas.units
     ∙ entry_is (index_units b) (λ j. unit_from b (u32_at b 4 + 16 * j)) (unit_number b) k (units_are b h) (subst (λ n. k < n) (unit_count_is b h) below)
 
-pub address_is : (b : List ℕ) (p : Parts) (k : ℕ) → HasFormat b → ArePartsIn b p → k < length (index_addresses b) → Some (address_from b (p.addresses + 20 * k)) ≡ slice_get (index_addresses b) k
-address_is b p k h parts below =
-    ap (λ n. Some (address_from b (n + 20 * k))) parts.addresses
+pub address_is : (b : List ℕ) (a : Areas) (k : ℕ) → HasFormat b → AreAreasOf b a → k < length (index_addresses b) → Some (address_from b (a.addresses + 20 * k)) ≡ slice_get (index_addresses b) k
+address_is b a k h areas below =
+    ap (λ n. Some (address_from b (n + 20 * k))) areas.addresses
     ∙ entry_is (index_addresses b) (λ j. address_from b (u32_at b 12 + 20 * j)) (address_number b) k (addresses_are b h) (subst (λ n. k < n) (address_count_is b h) below)

@@ -1,13 +1,15 @@
 -- The parts of an index whose format has no fault stand in order.
-use Rattle.std.proofs.Common.{◌≡◌, ℕ, Bool, true, false, ◌+◌, ◌-◌, ◌*◌, ◌/◌, ◌%◌, ◌^◌, ◌<◌, ◌≤◌, cond, eqb, List, length, Some, None, refl, ap, ◌∙◌, arith}
+use Rattle.std.proofs.Common.{◌≡◌, ℕ, Bool, true, false, ◌+◌, ◌-◌, ◌*◌, ◌/◌, ◌%◌, ◌^◌, ◌<◌, ◌≤◌, cond, eqb, List, length, Some, None, refl, arith}
 use Rattle.std.specs.Prelude.{not, ◌&&◌, ◌||◌}
 use Rattle.std.specs.Int.{is_power_of_two}
 use Rattle.std.proofs.lemmas.Bool.{leb-true, eqb-true}
 use Rattle.elf_format.specs.Bytes.{u32_at}
-use Rattle.gdb_index_format.specs.Version.{is_known, header_len, pool_field}
-use Rattle.gdb_index_format.specs.Probe.{index_fault, are_in_order, is_table, slot_count, table_at, pool_at}
+use Rattle.gdb_index_format.specs.Version.{is_known, header_len}
+use Rattle.gdb_index_format.specs.Probe.{index_fault, are_in_order, is_table, slot_count, pool_at}
 use Rattle.gdb_index_format.specs.declared.bad_index.BadIndex.TheVariants.{Version, Offsets, Slots}
-use Rattle.index_browser.specs.steps.Offsets.{ArePartsIn}
+use Rattle.gdb_index.specs.declared.reader.Parts.{Parts}
+use Rattle.gdb_index.specs.Parts.{ArePartsOf}
+use Rattle.index_browser.specs.steps.Offsets.{AreAreasOf}
 
 both : (x y : Bool) → (x && y) ≡ true → (x ≡ true) × (y ≡ true)
 both true true is = (refl, refl)
@@ -68,24 +70,22 @@ ordered b none =
       power = power;
     }
 
--- the parts as they are read
-pub parts_read : (b : List ℕ) (v u t a k s f p : ℕ) → index_fault b ≡ None → v ≡ u32_at b 0 → u ≡ u32_at b 4 → t ≡ u32_at b 8 → a ≡ u32_at b 12 → k ≡ u32_at b 16 → s ≡ u32_at b 20 → f ≡ pool_field v → p ≡ u32_at b f → k < 2 ^ 32 → s < 2 ^ 32 → p < 2 ^ 32
-    → ArePartsIn b (record { units = u; types = t; addresses = a; table = k; slots = (s - k) / 8; pool = p })
-unfolding table_at slot_count pool_at
-parts_read b v u t a k s f p none version units types addresses table shortcuts field pool low below small =
+-- the areas as they are read
+pub areas_read : (b : List ℕ) (u t a e : ℕ) → index_fault b ≡ None → u ≡ u32_at b 4 → t ≡ u32_at b 8 → a ≡ u32_at b 12 → e ≡ u32_at b 16 → e < 2 ^ 32 → AreAreasOf b (record { units = u; types = t; addresses = a; end = e })
+areas_read b u t a e none units types addresses end low =
     let o = ordered b none in
     record {
       units = units;
       types = types;
       addresses = addresses;
-      table = table;
-      slots = ap (λ x. (x - k) / 8) shortcuts ∙ ap (λ x. (u32_at b 20 - x) / 8) table;
-      pool = pool ∙ ap (u32_at b) (field ∙ ap pool_field version);
+      end = end;
       first = omega (arith, units, types, o.first);
       second = omega (arith, types, addresses, o.second);
-      third = omega (arith, addresses, table, o.third);
-      fourth = omega (arith, table, shortcuts, o.fourth, o.fifth, o.ends);
+      third = omega (arith, addresses, end, o.third);
+      within = omega (arith, end, o.fourth, o.fifth, o.ends);
       low = low;
-      few = omega (arith, below);
-      small = small;
     }
+
+-- the slots, eight bytes each, end before the constant pool
+pub few_slots : (b : List ℕ) (p : Parts) → ArePartsOf b p → p.slots < 2 ^ 29
+few_slots b p parts = let o = ordered b parts.sound in omega (arith, parts.slots, parts.pool, parts.pool_within, o.table, o.fifth)

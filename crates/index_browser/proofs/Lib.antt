@@ -1,5 +1,4 @@
 pub mod Headers
-pub mod Formats
 pub mod AreaLists
 pub mod ProbeSlots
 pub mod Walks

@@ -1,31 +1,18 @@
 -- A slot as it is read, and the probe that ends there.
-use Rattle.std.proofs.Common.{◌≡◌, ℕ, Bool, true, false, ◌+◌, ◌-◌, ◌*◌, ◌%◌, ◌<◌, cond, eqb, List, Option, Some, None, Result, Ok, refl, sym, ap, ◌∙◌, arith}
-use Rattle.std.specs.Prelude.{not, ◌&&◌, bit_or}
+use Rattle.std.proofs.Common.{◌≡◌, ℕ, Bool, true, false, ◌+◌, ◌-◌, ◌*◌, ◌<◌, cond, eqb, List, Option, Some, None, Result, Ok, refl, sym, ap, ◌∙◌, arith}
+use Rattle.std.specs.Prelude.{not, ◌&&◌}
 use Rattle.std.specs.Str.{bytes_eq}
-use Rattle.std.proofs.lemmas.Nat.{mod_below}
 use Rattle.elf_format.specs.Bytes.{u32_at, string_at}
 use Rattle.gdb_index_format.specs.declared.bad_index.BadIndex.{BadIndex}
 use Rattle.gdb_index_format.specs.Hash.{name_hash}
-use Rattle.gdb_index_format.specs.Slots.{slot_of, with_lowest_bit, step_size}
+use Rattle.gdb_index_format.specs.Slots.{slot_of}
 use Rattle.gdb_index_format.specs.Probe.{ProbeStep, Ends, Passes, Probed, after_step, probe_from, slot_count, table_at, pool_at, vector_at, step_in, step_named, step_at, probe}
-use Rattle.gdb_index.proofs.Numbers.{bit_or-one, steps_fit}
 use Rattle.gdb_index.proofs.Reading.{probe_passes, probe_ends, probe_step}
 use Rattle.gdb_index.proofs.Finding.{probe_is}
 use Rattle.index_browser.specs.declared.slots.Taken.{Taken}
 use Rattle.index_browser.specs.Stored.{last_slot}
 use Rattle.index_browser.specs.steps.Offsets.{HasFormat}
 use Rattle.index_browser.specs.steps.Taken.{taken_in, does_pass}
-
--- ---- the slot of a step
-
-pub fits : (slots hash step x n : ℕ) → slots < 4294967296 → hash < 4294967296 → step < slots → n ≡ hash → hash + step * bit_or (x % slots) 1 < 18446744073709551616
-fits slots hash step x n table hashed within is =
-    omega (arith, steps_fit slots hash step (x % slots) table hashed within (mod_below x slots (omega arith)), ap (λ y. step * y) (bit_or-one (x % slots)))
-
-pub is_slot : (slots hash step x n : ℕ) → x ≡ hash * 17 % 4294967296 → n ≡ hash → (n + step * bit_or (x % slots) 1) % slots ≡ slot_of slots hash step
-unfolding slot_of
-is_slot slots hash step x n spread is =
-    ap (λ y. (n + step * y) % slots) (bit_or-one (x % slots)) ∙ ap (λ y. (n + step * with_lowest_bit (y % slots)) % slots) spread ∙ ap (λ y. (y + step * step_size slots hash) % slots) is
 
 -- ---- one step
 

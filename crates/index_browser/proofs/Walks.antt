@@ -1,18 +1,19 @@
 -- Going over the numbers below a bound, from the front: what is left to go over decides.
-use Rattle.std.proofs.Common.{◌≡◌, ℕ, suc, Bool, true, false, ◌+◌, ◌-◌, ◌*◌, ◌<◌, ◌≤◌, cond, List, [], ◌∷◌, length, map, Option, Some, None, refl, sym, ap, ◌∙◌, arith}
-use Rattle.std.specs.Prelude.{◌&&◌, not, nat_lt, position}
+use Rattle.std.proofs.Common.{◌≡◌, ℕ, suc, Bool, true, false, ◌+◌, ◌-◌, ◌*◌, ◌<◌, ◌≤◌, cond, List, [], ◌∷◌, length, drop, map, Option, Some, None, refl, sym, ap, ◌∙◌, arith}
+use Rattle.std.specs.Prelude.{◌&&◌, not, nat_lt, position, slice_get}
 use Rattle.std.specs.List.{range_with_len, position_from, list_all, filter_map, cons_option}
 use Rattle.std.specs.Option.{option_or, option_and_then}
-use Rattle.elf_format.specs.Bytes.{u32_at}
+use Rattle.std.proofs.lemmas.List.{drop_more}
+use Rattle.std.proofs.lemmas.Option.{slice_get_within, get_or_from_slice_get}
 use Rattle.elf_format.proofs.SearchLemmas.{position_is_from}
 use Rattle.gdb_index_format.specs.Probe.{slot_count}
 use Rattle.gdb_index_format.specs.declared.placement.AddressEntry.{AddressEntry}
-use Rattle.index_browser.specs.declared.header.Parts.{Parts}
+use Rattle.index_browser.specs.declared.areas.Areas.{Areas}
 use Rattle.index_browser.specs.declared.error.BrowseError.{BrowseError}
 use Rattle.index_browser.specs.Areas.{index_addresses}
 use Rattle.index_browser.specs.Stored.{StoredSlot, stored_in}
 use Rattle.index_browser.specs.Fault.{first_found, is_element}
-use Rattle.index_browser.specs.steps.Offsets.{HasFormat, ArePartsIn, address_from}
+use Rattle.index_browser.specs.steps.Offsets.{HasFormat, AreAreasOf, address_from}
 use Rattle.index_browser.proofs.AreaLists.{address_number, addresses_are, address_count_is}
 
 pub next_number : (s n : ℕ) → s < n → range_with_len s (n - s) ≡ s ∷ range_with_len (s + 1) (n - (s + 1))
@@ -40,20 +41,22 @@ module _ {Y : Type 0} (p : Y → Bool) (g : ℕ → Y) (s n : ℕ) (x : Option �
   pub position_over : n ≤ s → None ≡ x
   position_over past = sym (ap (λ ks. position_from p s (map g ks)) (no_number s n past)) ∙ left
 
--- ---- whether all numbers pass a test
+-- ---- whether all elements pass a test
 
-module _ {Y : Type 0} (p : Y → Bool) (g : ℕ → Y) (s n : ℕ) (x : Bool) (left : list_all p (map g (range_with_len s (n - s))) ≡ x) where
-  next_all : s < n → (p (g s) && list_all p (map g (range_with_len (s + 1) (n - (s + 1))))) ≡ x
-  next_all below = sym (ap (λ ks. list_all p (map g ks)) (next_number s n below)) ∙ left
+at_rest : (p : ℕ → Bool) (ws : List ℕ) (k w : ℕ) → slice_get ws k ≡ Some w → list_all p (drop k ws) ≡ (p w && list_all p (drop (k + 1) ws))
+at_rest p ws k w is =
+    ap (list_all p) (drop_more ws k w (slice_get_within ws k w is)) ∙ ap (λ v. p v && list_all p (drop (k + 1) ws)) (get_or_from_slice_get ws k w w is)
 
-  pub all_kept : s < n → p (g s) ≡ true → list_all p (map g (range_with_len (s + 1) (n - (s + 1)))) ≡ x
-  all_kept below passes = sym (ap (λ t. t && list_all p (map g (range_with_len (s + 1) (n - (s + 1))))) passes) ∙ next_all below
+-- over the elements of a CU vector, from one on
+abbrev pub TestsElements : List ℕ → ℕ → ℕ → Type 0
+TestsElements ws units k = list_all (is_element units) (drop k ws) ≡ list_all (is_element units) ws
 
-  pub all_failed : s < n → p (g s) ≡ false → false ≡ x
-  all_failed below fails = sym (ap (λ t. t && list_all p (map g (range_with_len (s + 1) (n - (s + 1))))) fails) ∙ next_all below
+module _ (ws : List ℕ) (units k w : ℕ) (left : TestsElements ws units k) (is : slice_get ws k ≡ Some w) where
+  pub element_kept : is_element units w ≡ true → TestsElements ws units (k + 1)
+  element_kept passes = sym (ap (λ t. t && list_all (is_element units) (drop (k + 1) ws)) passes) ∙ sym (at_rest (is_element units) ws k w is) ∙ left
 
-  pub all_over : n ≤ s → true ≡ x
-  all_over past = sym (ap (λ ks. list_all p (map g ks)) (no_number s n past)) ∙ left
+  pub element_fails : is_element units w ≡ false → false ≡ list_all (is_element units) ws
+  element_fails fails = sym (ap (λ t. t && list_all (is_element units) (drop (k + 1) ws)) fails) ∙ sym (at_rest (is_element units) ws k w is) ∙ left
 
 -- ---- the first taken slot with a fault
 
@@ -80,14 +83,9 @@ abbrev pub without_unit : ℕ → AddressEntry → Bool
 without_unit units a = not (nat_lt a.unit units)
 
 -- over the address entries from one on
-abbrev pub SearchesEntries : List ℕ → Parts → ℕ → ℕ → Type 0
+abbrev pub SearchesEntries : List ℕ → Areas → ℕ → ℕ → Type 0
 SearchesEntries b p units s =
     position_from (without_unit units) s (map (λ k. address_from b (p.addresses + 20 * k)) (range_with_len s (length (index_addresses b) - s))) ≡ position (without_unit units) (index_addresses b)
-
--- over the elements of a CU vector
-abbrev pub TestsElements : List ℕ → ℕ → ℕ → ℕ → ℕ → Type 0
-TestsElements b at count units s =
-    list_all (is_element units) (map (λ k. u32_at b (at + 4 * k)) (range_with_len s (count - s))) ≡ list_all (is_element units) (map (λ k. u32_at b (at + 4 * k)) (range_with_len 0 count))
 
 -- over the slots
 abbrev pub TestsSlots : List ℕ → (StoredSlot → Option BrowseError) → ℕ → Type 0
@@ -96,16 +94,13 @@ TestsSlots b f s = first_found f (filter_map (stored_in b) (range_with_len s (sl
 whole : (n : ℕ) → n - 0 ≡ n
 whole n = omega arith
 
-pub entries_begin : (b : List ℕ) (p : Parts) (units : ℕ) → HasFormat b → ArePartsIn b p → SearchesEntries b p units 0
+pub entries_begin : (b : List ℕ) (p : Areas) (units : ℕ) → HasFormat b → AreAreasOf b p → SearchesEntries b p units 0
 entries_begin b p units h parts =
     let t = without_unit units in
     ap (λ n. position_from t 0 (map (λ k. address_from b (p.addresses + 20 * k)) (range_with_len 0 n))) (whole (length (index_addresses b)) ∙ address_count_is b h)
     ∙ ap (λ a. position_from t 0 (map (λ k. address_from b (a + 20 * k)) (range_with_len 0 (address_number b)))) parts.addresses
     ∙ ap (λ (xs : List AddressEntry). position_from t 0 xs) (sym (addresses_are b h))
     ∙ sym (position_is_from t (index_addresses b))
-
-pub elements_begin : (b : List ℕ) (at count units : ℕ) → TestsElements b at count units 0
-elements_begin b at count units = ap (λ n. list_all (is_element units) (map (λ k. u32_at b (at + 4 * k)) (range_with_len 0 n))) (whole count)
 
 pub slots_begin : (b : List ℕ) (f : StoredSlot → Option BrowseError) → TestsSlots b f 0
 slots_begin b f = ap (λ n. first_found f (filter_map (stored_in b) (range_with_len 0 n))) (whole (slot_count b))

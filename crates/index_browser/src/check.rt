@@ -3,15 +3,16 @@
 ghost use Rattle.std.specs.Prelude.{◌≡◌, ◌↔◌, [], IsOk, IfOk, MatchOption, slice_get, length};
 ghost use Rattle.std.specs.Result.{result_err};
 ghost use Rattle.gdb_index_format.specs.Units.{index_units};
+ghost use Rattle.gdb_index.specs.Parts.{ArePartsOf};
 ghost use Rattle.index_browser.specs.Areas.{index_addresses};
 ghost use Rattle.index_browser.specs.Fault.{browse_fault};
 ghost use Rattle.index_browser.specs.Checked.{PassesTests, IsChecked};
-ghost use Rattle.index_browser.specs.steps.Offsets.{HasFormat, ArePartsIn};
+ghost use Rattle.index_browser.specs.steps.Offsets.{HasFormat, AreAreasOf};
 
-use crate::areas::{address_of, count_addresses, count_units, unit_of};
+use crate::areas::{Areas, address_of, areas_of, count_addresses, count_units, unit_of};
 use crate::error::BrowseError;
 use crate::fault::first_fault;
-use crate::header::{Parts, parts_of};
+use gdb_index::{Parts, parts_of};
 use gdb_index_format::{AddressEntry, CuBoundary};
 use std::marker::Model;
 
@@ -58,23 +59,36 @@ impl<'a> CheckedIndex<'a> {
         self.bytes
     }
 
-    /// Reads the offsets of the parts, or returns None where there are no bytes.
-    pub(crate) fn parts(&self) -> Option<Parts>
-        ensures { MatchOption result (self.now ≡ []) (λ p. HasFormat self.now × ArePartsIn self.now p × PassesTests self.now) }
+    /// Reads the offsets of the areas, or returns None where there are no bytes.
+    fn areas(&self) -> Option<Areas>
+        ensures { MatchOption result (self.now ≡ []) (λ a. HasFormat self.now × AreAreasOf self.now a) }
     {
         if self.bytes.is_empty() {
             return None;
         }
-        Some(parts_of(self.bytes))
+        Some(areas_of(self.bytes))
+    }
+
+    /// Reads the parts that a probe reads, or returns None where there are no bytes.
+    pub(crate) fn parts(&self) -> Option<Parts>
+        ensures { MatchOption result (self.now ≡ []) (λ p. ArePartsOf self.now p × PassesTests self.now) }
+    {
+        if self.bytes.is_empty() {
+            return None;
+        }
+        match parts_of(self.bytes) {
+            Ok(parts) => Some(parts),
+            Err(_) => unreachable!(),
+        }
     }
 
     /// Returns the number of units.
     pub fn unit_count(&self) -> usize
         ensures { result ≡ length (index_units self.now) }
     {
-        match self.parts() {
+        match self.areas() {
             None => 0,
-            Some(parts) => count_units(self.bytes, &parts),
+            Some(areas) => count_units(self.bytes, &areas),
         }
     }
 
@@ -82,9 +96,9 @@ impl<'a> CheckedIndex<'a> {
     pub fn unit(&self, number: usize) -> Option<CuBoundary>
         ensures { result ≡ slice_get (index_units self.now) number }
     {
-        match self.parts() {
+        match self.areas() {
             None => None,
-            Some(parts) => unit_of(self.bytes, &parts, number),
+            Some(areas) => unit_of(self.bytes, &areas, number),
         }
     }
 
@@ -92,9 +106,9 @@ impl<'a> CheckedIndex<'a> {
     pub fn address_count(&self) -> usize
         ensures { result ≡ length (index_addresses self.now) }
     {
-        match self.parts() {
+        match self.areas() {
             None => 0,
-            Some(parts) => count_addresses(self.bytes, &parts),
+            Some(areas) => count_addresses(self.bytes, &areas),
         }
     }
 
@@ -102,9 +116,9 @@ impl<'a> CheckedIndex<'a> {
     pub fn address(&self, number: usize) -> Option<AddressEntry>
         ensures { result ≡ slice_get (index_addresses self.now) number }
     {
-        match self.parts() {
+        match self.areas() {
             None => None,
-            Some(parts) => address_of(self.bytes, &parts, number),
+            Some(areas) => address_of(self.bytes, &areas, number),
         }
     }
 }

@@ -1,32 +1,30 @@
 //! The tests of an index, in their order, and the first that fails.
 
-ghost use Rattle.std.specs.Prelude.{◌≡◌, ◌+◌, ◌*◌, ◌<◌, ◌≤◌, ◌^◌, not, nat_lt, length, map, position};
-ghost use Rattle.std.specs.List.{list_all, range_with_len};
+ghost use Rattle.std.specs.Prelude.{◌≡◌, ◌<◌, ◌^◌, not, nat_lt, position};
+ghost use Rattle.std.specs.List.{list_all};
 ghost use Rattle.std.specs.Option.{option_and_then};
-ghost use Rattle.elf_format.specs.Bytes.{u32_at};
-ghost use Rattle.gdb_index_format.specs.Version as format;
 ghost use Rattle.gdb_index_format.specs.Probe.{vector_at};
+ghost use Rattle.gdb_index.specs.Parts.{ArePartsOf};
 ghost use Rattle.index_browser.specs.Areas.{index_addresses, unit_count};
 ghost use Rattle.index_browser.specs.Stored.{stored_in};
 ghost use Rattle.index_browser.specs.Fault as spec;
-ghost use Rattle.index_browser.specs.steps.Offsets.{HasFormat, ArePartsIn};
+ghost use Rattle.index_browser.specs.steps.Offsets.{HasFormat, AreAreasOf};
 ghost use Rattle.index_browser.specs.steps.Placing.{misplaced_fault_at, table_fault as table_fault_spec, parts_fault as parts_fault_spec};
 
-use crate::areas::{count_addresses, count_units, read_address};
+use crate::areas::{Areas, areas_of, count_addresses, count_units, read_address};
 use crate::error::BrowseError;
-use crate::header::{Parts, format_fault, is_short, parts_of};
-use crate::slots::{last_slot, name_from, taken_at};
-use elf_words::read_u32;
+use crate::slots::{last_slot, taken_at};
+use gdb_index::{CuVector, Parts, is_short, name_from, parts_of, vector_from};
 
 /// Returns the number of the first address entry whose unit the CU list does not have.
-fn first_without_unit(index: &[u8], parts: &Parts, units: usize) -> Option<usize>
+fn first_without_unit(index: &[u8], areas: &Areas, units: usize) -> Option<usize>
     requires format { HasFormat index.now }
-    requires parts { ArePartsIn index.now parts.now }
+    requires areas { AreAreasOf index.now areas.now }
     ensures { result ≡ position (λ a. not (nat_lt a.unit units)) (index_addresses index.now) }
 {
-    let count = count_addresses(index, parts);
+    let count = count_addresses(index, areas);
     for number in 0..count {
-        let entry = read_address(index, parts.addresses + 20 * number);
+        let entry = read_address(index, areas.addresses + 20 * number);
         if entry.unit as usize >= units {
             return Some(number);
         }
@@ -36,17 +34,17 @@ fn first_without_unit(index: &[u8], parts: &Parts, units: usize) -> Option<usize
 
 /// Tests the address area: whole entries, each of a unit that is listed.
 #[tactic(auto, unfolding(crate::specs::Fault::area_fault, gdb_index_format::specs::Probe::table_at))]
-fn area_fault(index: &[u8], parts: &Parts, units: usize) -> Option<BrowseError>
+fn area_fault(index: &[u8], areas: &Areas, units: usize) -> Option<BrowseError>
     requires format { HasFormat index.now }
-    requires parts { ArePartsIn index.now parts.now }
+    requires areas { AreAreasOf index.now areas.now }
     requires units { units ≡ unit_count index.now }
     ensures { result ≡ spec.area_fault index.now }
 {
-    let size = parts.table - parts.addresses;
+    let size = areas.end - areas.addresses;
     if size % 20 != 0 {
         return Some(BrowseError::AddressArea(size / 20));
     }
-    first_without_unit(index, parts, units).map(BrowseError::AddressArea)
+    first_without_unit(index, areas, units).map(BrowseError::AddressArea)
 }
 
 /// Reports whether an element of a CU vector keeps its reserved bits zero and names one of so many units.
@@ -56,15 +54,13 @@ fn is_element(element: u32, units: usize) -> bool
     element / 0x100_0000 % 16 == 0 && ((element % 0x100_0000) as usize) < units
 }
 
-/// Reports whether so many elements from an offset on are such.
-fn are_elements(index: &[u8], at: usize, count: usize, units: usize) -> bool
-    requires within { at + 4 * count ≤ length index.now }
-    requires small { at < 2 ^ 34 }
-    requires few { count < 2 ^ 32 }
-    ensures { result ≡ list_all (spec.is_element units) (map (λ k. u32_at index.now (at + 4 * k)) (range_with_len 0 count)) }
+/// Reports whether all elements of a CU vector are such.
+fn are_elements(vector: &CuVector<'_>, units: usize) -> bool
+    ensures { result ≡ list_all (spec.is_element units) vector.now }
 {
-    for number in 0..count {
-        if !is_element(read_u32(index, at + 4 * number), units) {
+    for number in 0..vector.len() {
+        let element = vector.get(number).unwrap();
+        if !is_element(element, units) {
             return false;
         }
     }
@@ -72,19 +68,14 @@ fn are_elements(index: &[u8], at: usize, count: usize, units: usize) -> bool
 }
 
 /// Tests the CU vector at an offset, which is that of a slot.
-#[tactic(auto, unfolding(gdb_index_format::specs::Probe::vector_at))]
 fn vector_fault(index: &[u8], at: usize, units: usize, slot: usize) -> Option<BrowseError>
     requires { at < 2 ^ 33 }
     ensures { result ≡ spec.vector_fault units slot (vector_at index.now at) }
 {
-    if index.len() < at + 4 {
+    let Ok(vector) = vector_from(index, at) else {
         return Some(BrowseError::VectorOutside(slot));
-    }
-    let count = read_u32(index, at) as usize;
-    if index.len() < at + 4 + 4 * count {
-        return Some(BrowseError::VectorOutside(slot));
-    }
-    if count > 0 && are_elements(index, at + 4, count, units) {
+    };
+    if vector.len() > 0 && are_elements(&vector, units) {
         None
     } else {
         Some(BrowseError::BadVector(slot))
@@ -93,7 +84,7 @@ fn vector_fault(index: &[u8], at: usize, units: usize, slot: usize) -> Option<Br
 
 /// Tests the name and the CU vector of a slot, where it is taken.
 fn slot_fault(index: &[u8], parts: &Parts, units: usize, slot: usize) -> Option<BrowseError>
-    requires parts { ArePartsIn index.now parts.now }
+    requires parts { ArePartsOf index.now parts.now }
     requires within { slot < parts.now.slots }
     ensures { result ≡ option_and_then (spec.slot_fault units) (stored_in index.now slot) }
 {
@@ -109,7 +100,7 @@ fn slot_fault(index: &[u8], parts: &Parts, units: usize, slot: usize) -> Option<
 /// Tests the names and the CU vectors of all slots.
 #[tactic(auto, unfolding(crate::specs::Fault::stored_fault))]
 fn stored_fault(index: &[u8], parts: &Parts, units: usize) -> Option<BrowseError>
-    requires parts { ArePartsIn index.now parts.now }
+    requires parts { ArePartsOf index.now parts.now }
     requires units { units ≡ unit_count index.now }
     ensures { result ≡ spec.stored_fault index.now }
 {
@@ -124,7 +115,7 @@ fn stored_fault(index: &[u8], parts: &Parts, units: usize) -> Option<BrowseError
 /// Tests whether the probe for the name of a slot ends there, where the slot is taken.
 fn misplaced_fault(index: &[u8], parts: &Parts, slot: usize) -> Option<BrowseError>
     requires format { HasFormat index.now }
-    requires parts { ArePartsIn index.now parts.now }
+    requires parts { ArePartsOf index.now parts.now }
     requires within { slot < parts.now.slots }
     ensures { result ≡ option_and_then (misplaced_fault_at index.now) (stored_in index.now slot) }
 {
@@ -145,7 +136,7 @@ fn misplaced_fault(index: &[u8], parts: &Parts, slot: usize) -> Option<BrowseErr
 #[tactic(auto, unfolding(crate::specs::Fault::order_fault))]
 fn order_fault(index: &[u8], parts: &Parts) -> Option<BrowseError>
     requires format { HasFormat index.now }
-    requires parts { ArePartsIn index.now parts.now }
+    requires parts { ArePartsOf index.now parts.now }
     ensures { result ≡ spec.order_fault index.now }
 {
     for slot in 0..parts.slots {
@@ -159,7 +150,7 @@ fn order_fault(index: &[u8], parts: &Parts) -> Option<BrowseError>
 /// Tests the symbol hash table.
 fn table_fault(index: &[u8], parts: &Parts, units: usize) -> Option<BrowseError>
     requires format { HasFormat index.now }
-    requires parts { ArePartsIn index.now parts.now }
+    requires parts { ArePartsOf index.now parts.now }
     requires units { units ≡ unit_count index.now }
     ensures { result ≡ table_fault_spec index.now }
 {
@@ -171,21 +162,22 @@ fn table_fault(index: &[u8], parts: &Parts, units: usize) -> Option<BrowseError>
 
 /// Tests the parts of an index in which probes can be made.
 #[tactic(auto, unfolding(crate::specs::Fault::types_fault, crate::specs::Fault::units_fault))]
-fn parts_fault(index: &[u8]) -> Option<BrowseError>
-    requires { HasFormat index.now }
+fn parts_fault(index: &[u8], parts: &Parts) -> Option<BrowseError>
+    requires format { HasFormat index.now }
+    requires parts { ArePartsOf index.now parts.now }
     ensures { result ≡ parts_fault_spec index.now }
 {
-    let parts = parts_of(index);
-    if parts.types != parts.addresses {
+    let areas = areas_of(index);
+    if areas.types != areas.addresses {
         return Some(BrowseError::TypeUnits);
     }
-    if (parts.types - parts.units) % 16 != 0 {
+    if (areas.types - areas.units) % 16 != 0 {
         return Some(BrowseError::UnitArea);
     }
-    let units = count_units(index, &parts);
-    match area_fault(index, &parts, units) {
+    let units = count_units(index, &areas);
+    match area_fault(index, &areas, units) {
         Some(fault) => Some(fault),
-        None => table_fault(index, &parts, units),
+        None => table_fault(index, parts, units),
     }
 }
 
@@ -200,8 +192,8 @@ pub(crate) fn first_fault(index: &[u8]) -> Option<BrowseError>
     if is_short(index) {
         return Some(BrowseError::Short);
     }
-    match format_fault(index) {
-        Some(fault) => Some(BrowseError::Format(fault)),
-        None => parts_fault(index),
+    match parts_of(index) {
+        Err(fault) => Some(BrowseError::Format(fault)),
+        Ok(parts) => parts_fault(index, &parts),
     }
 }

@@ -8,7 +8,6 @@ mod check;
 mod error;
 mod examples;
 mod fault;
-mod header;
 mod laws;
 mod names;
 mod slots;

@@ -6,16 +6,17 @@ ghost use Rattle.std.specs.Option.{option_copied};
 ghost use Rattle.std.specs.Cmp.Lexicographic.{slice_cmp};
 ghost use Rattle.std.specs.Ordering.{nat_cmp};
 ghost use Rattle.gdb_index_format.specs.Probe.{probe};
-ghost use Rattle.index_browser.specs.steps.Offsets.{HasFormat, ArePartsIn};
+ghost use Rattle.gdb_index.specs.Parts.{ArePartsOf};
 ghost use Rattle.index_browser.specs.steps.Listing.{name_in, taken_names, shown_names, HasVector, named_by, AreNamesIn};
 ghost use Rattle.index_browser.specs.NameList.{all_listed, listed_name, IsNameListOf, IsNameListWith};
 ghost use Rattle.index_browser.specs.Checked.{PassesTests};
 
 use crate::check::CheckedIndex;
-use crate::header::{Parts, find};
-use crate::slots::{name_from, taken_at};
-use gdb_index::CuVector;
+use crate::slots::taken_at;
+use gdb_index::{BadIndex, CuVector, Parts, Steps, lookup, name_from};
 use std::alloc::{AllocError, Global};
+use std::marker::Brand;
+use std::sync::ledger::{Blank, Ledger};
 
 /// A name of an index, and its CU vector.
 #[derive(Debug, Drop)]
@@ -28,7 +29,7 @@ pub struct NameEntry<'a> {
 
 /// Returns the name of a slot, or None where the slot is free.
 fn name_at<'a>(index: &'a [u8], parts: &Parts, slot: usize) -> Option<&'a [u8]>
-    requires parts { ArePartsIn index.now parts.now }
+    requires parts { ArePartsOf index.now parts.now }
     requires within { slot < parts.now.slots }
     ensures { option_copied result ≡ name_in index.now slot }
 {
@@ -44,7 +45,7 @@ fn names_by_slot<'a>(
     index: &'a [u8],
     parts: &Parts,
 ) -> Result<Vec<&'a [u8]>, AllocError>
-    requires { ArePartsIn index.now parts.now }
+    requires { ArePartsOf index.now parts.now }
     ensures names { IfOk result (λ v. shown_names v.items ≡ taken_names index.now) }
     ensures few { IfOk result (λ v. length v.items ≤ parts.now.slots) }
 {
@@ -72,7 +73,7 @@ fn sorted_names<'a>(
     index: &'a [u8],
     parts: &Parts,
 ) -> Result<Vec<&'a [u8]>, AllocError>
-    requires parts { ArePartsIn index.now parts.now }
+    requires parts { ArePartsOf index.now parts.now }
     requires passes { PassesTests index.now }
     ensures names { IfOk result (λ v. AreNamesIn index.now (shown_names v.items)) }
     ensures few { IfOk result (λ v. length v.items < 2 ^ 29) }
@@ -80,6 +81,28 @@ fn sorted_names<'a>(
     let mut names = names_by_slot(alloc, index, parts)?;
     sort_names(&mut names)?;
     Ok(names)
+}
+
+/// Looks up a name with a count of probe steps of its own.
+fn find_from<'a, L: Ledger>(
+    index: &'a [u8],
+    name: &[u8],
+    blank: Blank,
+) -> Result<Option<CuVector<'a>>, BadIndex>
+    requires name { blank.name ≡ L.name }
+    requires parts { blank.parts ≡ L.parts }
+    requires some { 0 < blank.parts }
+    ensures { result ≡ (probe index.now name.now).answer }
+{
+    let mut steps = Steps::<L>::new(blank);
+    lookup(index, name, &mut steps)
+}
+
+/// Returns the CU vector of a name, or None where the index does not hold the name.
+fn find<'a>(index: &'a [u8], name: &[u8]) -> Result<Option<CuVector<'a>>, BadIndex>
+    ensures { result ≡ (probe index.now name.now).answer }
+{
+    find_from::<Brand>(index, name, Blank::new(1))
 }
 
 /// Returns a name with the CU vector that its probe finds.
