@@ -1,5 +1,5 @@
 -- What the probes of an index that can be browsed find is well formed.
-use Rattle.std.proofs.Common.{◌≡◌, ◌≢◌, ℕ, Bool, true, false, ◌<◌, cond, eqb, List, [], take, drop, get_or, Option, Some, None, Result, Ok, refl, sym, ap, subst, ◌∙◌, arith, inl, inr}
+use Rattle.std.proofs.Common.{◌≡◌, ◌≢◌, ℕ, Bool, true, false, ◌<◌, cond, eqb, List, [], length, take, drop, get_or, Option, Some, None, Result, Ok, refl, sym, ap, subst, ◌∙◌, arith, inl, inr, ◌-◌, ◌*◌, ◌/◌, ◌≤◌}
 use Rattle.std.specs.Prelude.{option_map}
 use Rattle.std.specs.Str.{bytes_eq}
 use Rattle.std.specs.List.{All, position}
@@ -8,17 +8,19 @@ use Rattle.std.proofs.lemmas.List.{get_or-take, length-take-le}
 use Rattle.std.proofs.lemmas.List.Elements.{All-nil}
 use Rattle.std.proofs.lemmas.List.Quantifiers.{position-Some}
 use Rattle.std.proofs.lemmas.Slice.Eq.{bytes_eq-Decides}
-use Rattle.elf_format.specs.Bytes.{string_at}
+use Rattle.elf_format.specs.Bytes.{u32_at, string_at}
 use Rattle.gdb_index_format.specs.declared.bad_index.BadIndex.{BadIndex}
 use Rattle.gdb_index_format.specs.declared.placement.AddressEntry.{AddressEntry}
 use Rattle.gdb_index_format.specs.Probe.{Ends, Passes, slot_count, vector_at, step_named, probe}
 use Rattle.index_browser.specs.declared.slots.Taken.{Taken}
-use Rattle.index_browser.specs.Areas.{unit_count}
+use Rattle.index_browser.specs.Areas.{index_addresses, unit_count}
 use Rattle.index_browser.specs.Stored.{stored_in, last_slot}
 use Rattle.index_browser.specs.Checked.{IsElement, IsWellStored, PassesTests, IsFoundName}
 use Rattle.index_browser.specs.Laws.{CheckedIsWellFormed}
 use Rattle.index_browser.specs.steps.Taken.{taken_in}
-use Rattle.index_browser.proofs.Checking.{no_addresses}
+use Rattle.index_browser.proofs.AreaLists.{unit_count_is, address_count_is}
+use Rattle.index_browser.proofs.Checking.{no_addresses, units_of_none, addresses_of_none}
+use Rattle.index_browser.proofs.Headers.{ordered}
 use Rattle.index_browser.proofs.NameOrders.{nothing_in}
 use Rattle.index_browser.proofs.ProbeSlots.{step_of, step_is_of}
 use Rattle.index_browser.proofs.StoredSlots.{stored_of, stored_is}
@@ -82,12 +84,34 @@ is_found b name elements p is = elim (cases_lt 0 (slot_count b)) [
   | inr none ↦ absurd (not_found b name elements is (no_slots b name (has_format b p) (omega (arith, none))))
 ]
 
+-- ---- the areas stand within the bytes
+
+sixteens : (o1 o2 n len : ℕ) → n ≡ (o2 - o1) / 16 → o2 ≤ len → 16 * n ≤ len
+sixteens o1 o2 n len is within = omega (arith, is, within)
+
+twenties : (o3 o4 n len : ℕ) → n ≡ (o4 - o3) / 20 → o4 ≤ len → 20 * n ≤ len
+twenties o3 o4 n len is within = omega (arith, is, within)
+
+units_inside : (b : List ℕ) → PassesTests b → 16 * unit_count b ≤ length b
+units_inside b p =
+    let o = ordered b p.format in
+    sixteens (u32_at b 4) (u32_at b 8) (unit_count b) (length b) (unit_count_is b (has_format b p)) (omega (arith, o.second, o.third, o.fourth, o.fifth, o.ends))
+
+addresses_inside : (b : List ℕ) → PassesTests b → 20 * length (index_addresses b) ≤ length b
+addresses_inside b p =
+    let o = ordered b p.format in
+    twenties (u32_at b 12) (u32_at b 16) (length (index_addresses b)) (length b) (address_count_is b (has_format b p)) (omega (arith, o.fourth, o.fifth, o.ends))
+
 pub checked_is_well_formed_lem : CheckedIsWellFormed
 checked_is_well_formed_lem b (inl empty) = record {
+  units_within = omega (arith, units_of_none b empty);
+  addresses_within = omega (arith, addresses_of_none b empty);
   units_exist = subst (All (λ (a : AddressEntry). a.unit < unit_count b)) (sym (no_addresses b empty)) (All-nil (λ (a : AddressEntry). a.unit < unit_count b));
   found = λ name elements is. absurd (not_found b name elements is (nothing_in b name empty));
 }
 checked_is_well_formed_lem b (inr p) = record {
+  units_within = units_inside b p;
+  addresses_within = addresses_inside b p;
   units_exist = p.units_exist;
   found = λ name elements is. is_found b name elements p is;
 }

@@ -1,5 +1,5 @@
 -- The indexes that can be browsed.
-use Rattle.std.specs.Prelude.{◌≡◌, ◌≢◌, ◌⊎◌, ℕ, ◌-◌, ◌/◌, ◌%◌, ◌^◌, ◌<◌, ◌≤◌, List, [], length, Some, None, Ok}
+use Rattle.std.specs.Prelude.{◌≡◌, ◌≢◌, ◌⊎◌, ℕ, ◌-◌, ◌*◌, ◌/◌, ◌%◌, ◌^◌, ◌<◌, ◌≤◌, List, [], length, Some, None, Ok}
 use Rattle.std.specs.List.{All}
 use Rattle.elf_format.specs.Bytes.{u32_at}
 use Rattle.gdb_index_format.specs.Version.{header_len}
@@ -46,5 +46,7 @@ pub record IsFoundName (b name elements : List ℕ) : Type 0 where
 
 -- what holds of an index that can be browsed
 pub record IsWellFormedIndex (b : List ℕ) : Type 0 where
+  pub units_within : 16 * unit_count b ≤ length b
+  pub addresses_within : 20 * length (index_addresses b) ≤ length b
   pub units_exist : All (λ a. a.unit < unit_count b) (index_addresses b)
   pub found : (name elements : List ℕ) → (probe b name).answer ≡ Ok (Some elements) → IsFoundName b name elements

@@ -1,6 +1,6 @@
 //! Checks untrusted bytes before they are browsed.
 
-ghost use Rattle.std.specs.Prelude.{◌≡◌, ◌↔◌, [], IsOk, IfOk, MatchOption, slice_get, length};
+ghost use Rattle.std.specs.Prelude.{◌≡◌, ◌<◌, ◌^◌, ◌↔◌, [], IsOk, IfOk, MatchOption, slice_get, length};
 ghost use Rattle.std.specs.Result.{result_err};
 ghost use Rattle.gdb_index_format.specs.Units.{index_units};
 ghost use Rattle.gdb_index.specs.Parts.{ArePartsOf};
@@ -55,6 +55,7 @@ impl<'a> CheckedIndex<'a> {
     pub fn bytes(&self) -> &'a [u8]
         ensures bytes { result.now ≡ self.now }
         ensures checked { IsChecked self.now }
+        ensures small { length self.now < 2 ^ 64 }
     {
         self.bytes
     }

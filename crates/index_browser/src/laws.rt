@@ -17,7 +17,7 @@ pub fn layout_is_checked()
     ensures { LayoutIsChecked }
 {}
 
-/// The address entries that an index that can be browsed lists name units of it. A name that a probe finds has no zero
+/// In an index that can be browsed, the CU list and the address area are within the bytes, and address entries name its units. A name that a probe finds has no zero
 /// byte, and its CU vector has elements, each with zero reserved bits and the index of a unit.
 pub fn checked_is_well_formed()
     ensures { CheckedIsWellFormed }
