@@ -1,0 +1,4 @@
+pub mod SymbolExample
+pub mod SymbolShape
+pub mod SymbolTests
+pub mod SymbolText
