@@ -4,24 +4,15 @@
 LINKED is what `ld.lld --gdb-index` made of the same objects in the same order, and REPORT what `derive tables` writes.
 """
 
+import os
 import struct
 import sys
 
 sys.dont_write_bytecode = True
+sys.path.insert(0, os.path.join(os.path.dirname(os.path.abspath(__file__)), "..", "examples"))
 
 from probe_steps import read_report
-
-
-def section_of(data, wanted):
-    """The bytes of the section of a name (System V gABI, "Sections"), in a file of ELFCLASS64."""
-    table, = struct.unpack_from("<Q", data, 40)
-    count, names = struct.unpack_from("<HH", data, 60)
-    headers = [struct.unpack_from("<IIQQQQ", data, table + 64 * number) for number in range(count)]
-    for header in headers:
-        start = headers[names][4] + header[0]
-        if data[start:start + len(wanted) + 1] == wanted + b"\0":
-            return data[header[4]:header[4] + header[5]]
-    sys.exit(f"no section {wanted.decode()}")
+from program_layout import Elf
 
 
 def names_of(index):
@@ -40,8 +31,7 @@ def names_of(index):
 def main():
     if len(sys.argv) != 2:
         sys.exit(__doc__)
-    with open(sys.argv[1], "rb") as file:
-        expected = names_of(section_of(file.read(), b".gdb_index"))
+    expected = names_of(Elf(sys.argv[1]).section(b".gdb_index"))
     names = dict(read_report(sys.stdin)[0])
     if names != expected:
         sys.exit(f"{len(names)} names, and {len(expected)} in lld's index, or other CU vectors")
