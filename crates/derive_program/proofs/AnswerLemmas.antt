@@ -11,14 +11,16 @@ use Rattle.derivation.specs.declared.error.DeriveError.{DeriveError}
 use Rattle.derivation.specs.declared.error.DeriveError.TheVariants as errors
 use Rattle.program_files.specs.declared.files_read.FilesRead.{FilesRead}
 use Rattle.program_text.specs.Layout.{LayoutEntries, layout_of}
+use Rattle.program_text.specs.Demo.{shown_of}
 use Rattle.program_text.specs.Query.{Query}
 use Rattle.program_text.specs.Report.{report_of}
 use Rattle.derive_program.specs.declared.ran.Ran.{Ran}
-use Rattle.derive_program.specs.declared.ran.Ran.TheVariants.{Done, Refused, WriteFault, NoMemory}
-use Rattle.derive_program.specs.steps.Answer.{program_input_of, IsInputOfFiles, IsReportOfFiles, IsAnswerFor, IsRefusalOf, IsWritingOf, IsReplyWriting, IsReplyOf, IsQueryAnswer}
+use Rattle.derive_program.specs.declared.ran.Ran.TheVariants.{Done, Shown, Refused, WriteFault, NoMemory}
+use Rattle.derive_program.specs.steps.Answer.{program_input_of, IsInputOfFiles, IsReportOfFiles, IsAnswerFor, IsRefusalOf, IsWritingOf, IsReplyWriting, IsReplyOf, IsQueryAnswer, IsSummaryWriting, IsTextOfDemo, IsDemoAnswer}
 use Rattle.derive_program.specs.Cause.{HasCauseIn, HasReport, IsAttempted}
 use Rattle.derive_program.specs.ProgramInput.{ProgramInput, AreTablesOf, HasTables}
 use Rattle.derive_program.specs.Reply.{Reply, IsReply, reply_text}
+use Rattle.derive_program.specs.Shown.{numbered_input, numbers_of, HasSummary}
 use Rattle.derive_program.specs.Writing.{Writes, IsSilent, IsPutOnce, IsWhole}
 
 -- an input of these parts
@@ -123,3 +125,43 @@ after_reply query bytes reply text writes ran replies is (answered, put) =
     let P : Option Reply → Type 0 = λ r. IsReplyOf query bytes writes r in
     let Q : Option (List ℕ) → Type 0 = λ t. IsWhole writes t in
     subst P (sym answered) (replies, subst Q (sym is) put)
+
+-- the summary of tables
+summary_with : (count : ℕ) (units : List CuBoundary) (names : List NameWords) (index sframe : List ℕ) (outcome : SframeOutcome) → AreTablesOf (numbered_input count) units names index sframe outcome → HasSummary count (numbers_of count units names index) index sframe outcome (shown_of (numbers_of count units names index) outcome)
+summary_with count units names index sframe outcome are = record { units = units; names = names; tables = are; numbers = refl; report = refl }
+
+-- there was no call, or one with the summary
+summary_calls : (count : ℕ) (units : List CuBoundary) (names : List NameWords) (index sframe : List ℕ) (outcome : SframeOutcome) (writes : Writes) → AreTablesOf (numbered_input count) units names index sframe outcome → (writes.puts_now ≡ writes.puts) ⊎ IsPutOnce writes (shown_of (numbers_of count units names index) outcome) → (writes.puts_now ≡ writes.puts) ⊎ IsAttempted (IsTextOfDemo count) writes
+summary_calls count units names index sframe outcome writes are (inl none) = inl none
+summary_calls count units names index sframe outcome writes are (inr once) =
+    inr (record { text = shown_of (numbers_of count units names index) outcome; told = (numbers_of count units names index, index, sframe, outcome, summary_with count units names index sframe outcome are); once = once })
+
+-- from the writing of the summary of a number's tables to the answer for the number
+pub after_summary : (count : ℕ) (units : List CuBoundary) (names : List NameWords) (index sframe : List ℕ) (outcome : SframeOutcome) (writes : Writes) (ran : Ran) → AreTablesOf (numbered_input count) units names index sframe outcome → IsSummaryWriting count units names index sframe outcome writes ran → IsDemoAnswer count writes ran
+after_summary count units names index sframe outcome writes (Shown summary tables) are (n, i, s, o, put) = (
+  shown_of (numbers_of count units names index) outcome,
+  record {
+    units = units;
+    names = names;
+    tables = tables_named (numbered_input count) units names _ _ _ _ _ _ i s o are;
+    numbers = n ∙ ap (λ x. numbers_of count units names x) (sym i);
+    report = ap (λ x. shown_of x outcome) (sym n) ∙ ap (λ x. shown_of summary x) (sym o);
+  },
+  put,
+)
+after_summary count units names index sframe outcome writes WriteFault are put = record {
+  text = shown_of (numbers_of count units names index) outcome;
+  told = (numbers_of count units names index, index, sframe, outcome, summary_with count units names index sframe outcome are);
+  put = put;
+}
+after_summary count units names index sframe outcome writes NoMemory are (same, calls) = record {
+  written = same;
+  calls = summary_calls count units names index sframe outcome writes are calls;
+}
+after_summary count units names index sframe outcome writes ran are never = absurd never
+
+-- an input that has tables is not refused
+pub after_no_refusal : (count : ℕ) (error : DeriveError) (writes : Writes) (ran : Ran) → error ≡ errors.NoMemory → IsSilent writes → IsRefusalOf error ran → IsDemoAnswer count writes ran
+after_no_refusal count error writes (Refused answered) memory silent (is, not_memory) = absurd (not_memory memory)
+after_no_refusal count error writes NoMemory memory silent is = record { written = silent.written; calls = inl silent.puts }
+after_no_refusal count error writes ran memory silent never = absurd never

@@ -10,16 +10,17 @@ use Rattle.program_files.specs.declared.error.ReadError.{ReadError}
 use Rattle.program_files.specs.Reading.{Texts, read_of, reading_fault, asked_file}
 use Rattle.program_io.specs.Contents.{Contents}
 use Rattle.program_io.specs.Counting.{Rose}
-use Rattle.program_text.specs.Command.{Request, command_of, for_tables, for_query}
+use Rattle.program_text.specs.Command.{Request, command_of, for_tables, for_query, for_demo, NamesFile}
 use Rattle.program_text.specs.Query.{Query}
 use Rattle.program_text.specs.Tables.{Tables, version_of}
 use Rattle.program_text.specs.Layout.{layout_of}
 use Rattle.derive_program.specs.declared.ran.Ran.{Ran}
-use Rattle.derive_program.specs.declared.ran.Ran.TheVariants.{Done, Found, Located, Absent, Refused, RefusedIndex, RefusedFrames, BadWords, BadLayout, ReadFault, FileTooLong, WriteFault, NoMemory}
-use Rattle.derive_program.specs.Cause.{Reads, IsRunOf, HasCauseIn, IsReadable, IsInputFrom, IsGood, IsFaulty, IsBadLayout, IsWrongLayout, HasReport, IsRefused, IsReported, HasText, of_tables, of_query, IsReplied, IsReplyWritten, IsAskable, IsAnswerOf, IsReplyOrNoMemory, IsUnwritten, IsDoneOrNoMemory, IsDoneOrFault, IfDone, IfRefused}
+use Rattle.derive_program.specs.declared.ran.Ran.TheVariants.{Done, Found, Located, Absent, Shown, Refused, RefusedIndex, RefusedFrames, BadWords, BadLayout, ReadFault, FileTooLong, WriteFault, NoMemory}
+use Rattle.derive_program.specs.Cause.{Reads, IsRunOf, HasCauseIn, IsReadable, IsInputFrom, IsGood, IsFaulty, IsBadLayout, IsWrongLayout, HasReport, IsRefused, IsReported, HasText, of_tables, of_query, of_demo, IsReplied, IsReplyWritten, IsAskable, IsAnswerOf, IsReplyOrNoMemory, IsReplyOrFault, IsUnwritten, IsDoneOrNoMemory, IsDoneOrFault, IsShownOrNoMemory, IsShownOrFault, IfDone, IfShown, IfRefused}
 use Rattle.derive_program.specs.Laws.{RepliesAreOne}
 use Rattle.derive_program.specs.ProgramInput.{ProgramInput, IsInputOf, texts_of_input, derived_from}
 use Rattle.derive_program.specs.Reply.{Reply, IsReply, reply_text, reply_in}
+use Rattle.derive_program.specs.Shown.{IsShown}
 use Rattle.derive_program.specs.Status.{may_write}
 use Rattle.derive_program.specs.Writing.{Writes, IsSilent, IsWhole}
 use Rattle.std.specs.Result.{result_err}
@@ -38,22 +39,24 @@ unfolding ok_or
 same_ok r a b is_a is_b = ap (λ v. ok_or a v) (sym is_a ∙ is_b)
 
 -- the arguments are of one command
-kind_of : Result Request ℕ → Bool
-kind_of (Ok (for_tables command)) = true
-kind_of (Ok (for_query query)) = false
-kind_of (Err index) = false
-
 one_kind : (r : Result Request ℕ) (t : Tables) (q : Query) → r ≡ Ok (for_tables t) → r ≡ Ok (for_query q) → ⊥
-unfolding kind_of
-one_kind r t q is_t is_q = false≢true (sym (ap kind_of is_q) ∙ ap kind_of is_t)
+one_kind r t q is_t is_q = cc
+
+not_demo : (r : Result Request ℕ) (t : Tables) (n : ℕ) → r ≡ Ok (for_tables t) → r ≡ Ok (for_demo n) → ⊥
+not_demo r t n is_t is_n = cc
+
+no_demo : (r : Result Request ℕ) (q : Query) (n : ℕ) → r ≡ Ok (for_query q) → r ≡ Ok (for_demo n) → ⊥
+no_demo r q n is_q is_n = cc
 
 tables_in : Tables → Request → Tables
 tables_in other (for_tables command) = command
 tables_in other (for_query query) = other
+tables_in other (for_demo count) = other
 
 query_in : Query → Request → Query
 query_in other (for_tables command) = other
 query_in other (for_query query) = query
+query_in other (for_demo count) = other
 
 same_tables : (r : Result Request ℕ) (a b : Tables) → r ≡ Ok (for_tables a) → r ≡ Ok (for_tables b) → a ≡ b
 unfolding tables_in
@@ -70,9 +73,11 @@ not_both r a e is_a is_e = cc
 no_text : (words : List (List ℕ)) (held : Contents) (text : List ℕ) (index : ℕ) → HasText held words text → command_of words ≡ Err index → ⊥
 no_text words held text index (of_tables i s o reported) wrong = not_both (command_of words) _ index reported.read.said wrong
 no_text words held text index (of_query reply replied) wrong = not_both (command_of words) _ index replied.said wrong
+no_text words held text index (of_demo count said summary i s o has) wrong = not_both (command_of words) _ index said wrong
 
 pub bad_words : (words : List (List ℕ)) (reads : Reads) (writes : Writes) (ran : Ran) (index : ℕ) → IsRunOf words reads writes ran → command_of words ≡ Err index → ran ≡ BadWords index
 bad_words words reads writes (Done tables) index cause wrong = absurd (not_both (command_of words) _ index cause.reported.read.said wrong)
+bad_words words reads writes (Shown summary tables) index cause wrong = absurd (not_both (command_of words) _ index cause.said wrong)
 bad_words words reads writes (Refused error) index (cause, same) wrong = absurd (not_both (command_of words) _ index cause.read.said wrong)
 bad_words words reads writes (BadWords at) index (is, same) wrong = ap (λ p. BadWords p) (let equal : at ≡ index = same_err (command_of words) at index is wrong in equal)
   where
@@ -97,6 +102,7 @@ pub silent_by : (words : List (List ℕ)) (reads : Reads) (writes : Writes) (ran
 silent_by words reads writes (Done tables) cause never = absurd (false≢true (sym never))
 silent_by words reads writes (Found answer) cause never = absurd (false≢true (sym never))
 silent_by words reads writes (Located index) cause never = absurd (false≢true (sym never))
+silent_by words reads writes (Shown summary tables) cause never = absurd (false≢true (sym never))
 silent_by words reads writes WriteFault cause never = absurd (false≢true (sym never))
 silent_by words reads writes Absent cause never = no_reply_text writes cause.text cause.replied.text_is cause.whole
 silent_by words reads writes (RefusedIndex fault) cause never = no_reply_text writes cause.text cause.replied.text_is cause.whole
@@ -173,6 +179,7 @@ all_read held words error command good said told =
 
 pub complete_by : (words : List (List ℕ)) (reads : Reads) (writes : Writes) (ran : Ran) → IsRunOf words reads writes ran → IsGood reads.held words → (Rose reads.faults reads.faults_now → ⊥) ⊎ IsTrue reads.steady → (Rose writes.faults writes.faults_now → ⊥) ⊎ IsTrue writes.steady → IsDoneOrNoMemory ran
 complete_by words reads writes (Done tables) cause good files sink = tt
+complete_by words reads writes (Shown summary tables) cause good files sink = not_demo (command_of words) good.readable.command cause.count good.readable.said cause.said
 complete_by words reads writes (Refused error) (cause, same) good files sink = cause.no_tables (good.valid cause.input (input_from reads.held words good.readable cause.input cause.read))
 complete_by words reads writes (BadWords index) (wrong, same) good files sink = not_both (command_of words) (for_tables good.readable.command) index good.readable.said wrong
 complete_by words reads writes (BadLayout line) (cause, same) good files sink = no_line reads.held words line good.readable cause
@@ -186,6 +193,7 @@ complete_by words reads writes ran cause good files sink = one_kind (command_of 
 
 pub complete_or_fault_by : (words : List (List ℕ)) (reads : Reads) (writes : Writes) (ran : Ran) → IsRunOf words reads writes ran → IsGood reads.held words → IsDoneOrFault ran
 complete_or_fault_by words reads writes (Done tables) cause good = tt
+complete_or_fault_by words reads writes (Shown summary tables) cause good = not_demo (command_of words) good.readable.command cause.count good.readable.said cause.said
 complete_or_fault_by words reads writes (Refused error) (cause, same) good = cause.no_tables (good.valid cause.input (input_from reads.held words good.readable cause.input cause.read))
 complete_or_fault_by words reads writes (BadWords index) (wrong, same) good = not_both (command_of words) (for_tables good.readable.command) index good.readable.said wrong
 complete_or_fault_by words reads writes (BadLayout line) (cause, same) good = no_line reads.held words line good.readable cause
@@ -203,9 +211,11 @@ no_report held words error index sframe text outcome bad reported =
 no_report_text : (held : Contents) (words : List (List ℕ)) (error : DeriveError) (text : List ℕ) → IsFaulty held words error → HasText held words text → ⊥
 no_report_text held words error text bad (of_tables index sframe outcome reported) = no_report held words error index sframe text outcome bad reported
 no_report_text held words error text bad (of_query reply replied) = one_kind (command_of words) bad.readable.command replied.query bad.readable.said replied.said
+no_report_text held words error text bad (of_demo count said summary i s o has) = not_demo (command_of words) bad.readable.command count bad.readable.said said
 
 pub refused_exact_by : (words : List (List ℕ)) (reads : Reads) (writes : Writes) (error : DeriveError) (ran : Ran) → IsRunOf words reads writes ran → IsFaulty reads.held words error → (Rose reads.faults reads.faults_now → ⊥) ⊎ IsTrue reads.steady → (ran ≡ Refused error) ⊎ (ran ≡ NoMemory)
 refused_exact_by words reads writes error (Done tables) cause bad files = absurd (no_report reads.held words error _ _ _ _ bad cause.reported)
+refused_exact_by words reads writes error (Shown summary tables) cause bad files = absurd (not_demo (command_of words) bad.readable.command cause.count bad.readable.said cause.said)
 refused_exact_by words reads writes error (Refused answered) (cause, same) bad files =
     let is : error ≡ answered = cause.only error (bad.cause cause.input (input_from reads.held words bad.readable cause.input cause.read)) in
     inl (ap (λ e. Refused e) (sym is))
@@ -241,12 +251,14 @@ not_read words held line error command wrong said told =
 wrong_text : (words : List (List ℕ)) (held : Contents) (line : ℕ) (text : List ℕ) → IsWrongLayout held words line → HasText held words text → ⊥
 wrong_text words held line text wrong (of_tables index sframe outcome reported) = wrong_input words held line reported.input wrong reported.read
 wrong_text words held line text wrong (of_query reply replied) = one_kind (command_of words) wrong.command replied.query wrong.said replied.said
+wrong_text words held line text wrong (of_demo count said summary i s o has) = not_demo (command_of words) wrong.command count wrong.said said
 
 same_line : {T : Type 0} (r : Result T ℕ) (a b : ℕ) → r ≡ Err a → r ≡ Err b → a ≡ b
 same_line r a b is_a is_b = cc
 
 pub layout_exact_by : (words : List (List ℕ)) (reads : Reads) (writes : Writes) (line : ℕ) (ran : Ran) → IsRunOf words reads writes ran → IsWrongLayout reads.held words line → (Rose reads.faults reads.faults_now → ⊥) ⊎ IsTrue reads.steady → (ran ≡ BadLayout line) ⊎ (ran ≡ NoMemory)
 layout_exact_by words reads writes line (Done tables) cause wrong files = absurd (wrong_input words reads.held line cause.reported.input wrong cause.reported.read)
+layout_exact_by words reads writes line (Shown summary tables) cause wrong files = absurd (not_demo (command_of words) wrong.command cause.count wrong.said cause.said)
 layout_exact_by words reads writes line (Refused error) (cause, same) wrong files = absurd (wrong_input words reads.held line cause.input wrong cause.read)
 layout_exact_by words reads writes line (BadWords index) (is, same) wrong files = absurd (not_both (command_of words) (for_tables wrong.command) index wrong.said is)
 layout_exact_by words reads writes line (BadLayout at) (cause, same) wrong files =
@@ -305,6 +317,7 @@ no_asked_fault held words error command good said told =
 
 pub reply_exact_by : RepliesAreOne → (words : List (List ℕ)) (reads : Reads) (writes : Writes) (ran : Ran) → IsRunOf words reads writes ran → (good : IsAskable reads.held words) (reply : Reply) → IsReply good.query good.bytes reply → (Rose reads.faults reads.faults_now → ⊥) ⊎ IsTrue reads.steady → IsAnswerOf good.query good.bytes reply ran
 reply_exact_by one words reads writes (Done tables) cause good reply replies files = absurd (one_kind (command_of words) cause.reported.read.command good.query cause.reported.read.said good.said)
+reply_exact_by one words reads writes (Shown summary tables) cause good reply replies files = absurd (no_demo (command_of words) good.query cause.count good.said cause.said)
 reply_exact_by one words reads writes (Refused error) (cause, silent) good reply replies files = absurd (one_kind (command_of words) cause.read.command good.query cause.read.said good.said)
 reply_exact_by one words reads writes (BadWords index) (wrong, silent) good reply replies files = absurd (not_both (command_of words) (for_query good.query) index good.said wrong)
 reply_exact_by one words reads writes (BadLayout line) (cause, silent) good reply replies files = absurd (one_kind (command_of words) cause.command good.query cause.said good.said)
@@ -315,12 +328,14 @@ reply_exact_by one words reads writes WriteFault cut good reply replies files = 
   where
     at : (text : List ℕ) → HasText reads.held words text → IsAnswerOf good.query good.bytes reply WriteFault
     at text (of_tables index sframe outcome reported) = absurd (one_kind (command_of words) reported.read.command good.query reported.read.said good.said)
+    at text (of_demo count said summary i s o has) = absurd (no_demo (command_of words) good.query count good.said said)
     at text (of_query other replied) = inr (inl (refl, ap (λ (t : Option (List ℕ)). is_some t) (same_reply_text one reads.held words good reply other (Some text) replies replied)))
 reply_exact_by one words reads writes NoMemory cause good reply replies files = inr (inr refl)
 reply_exact_by one words reads writes ran cause good reply replies files = inl (ap (λ r. Some r) (same_replied one reads.held words good reply _ cause.text replies cause.replied))
 
 pub reply_complete_by : (words : List (List ℕ)) (reads : Reads) (writes : Writes) (ran : Ran) → IsRunOf words reads writes ran → IsAskable reads.held words → (Rose reads.faults reads.faults_now → ⊥) ⊎ IsTrue reads.steady → (Rose writes.faults writes.faults_now → ⊥) ⊎ IsTrue writes.steady → IsReplyOrNoMemory ran
 reply_complete_by words reads writes (Done tables) cause good files sink = absurd (one_kind (command_of words) cause.reported.read.command good.query cause.reported.read.said good.said)
+reply_complete_by words reads writes (Shown summary tables) cause good files sink = absurd (no_demo (command_of words) good.query cause.count good.said cause.said)
 reply_complete_by words reads writes (Refused error) (cause, silent) good files sink = absurd (one_kind (command_of words) cause.read.command good.query cause.read.said good.said)
 reply_complete_by words reads writes (BadWords index) (wrong, silent) good files sink = absurd (not_both (command_of words) (for_query good.query) index good.said wrong)
 reply_complete_by words reads writes (BadLayout line) (cause, silent) good files sink = absurd (one_kind (command_of words) cause.command good.query cause.said good.said)
@@ -331,3 +346,48 @@ reply_complete_by words reads writes WriteFault cut good files (inl quiet) = abs
 reply_complete_by words reads writes WriteFault cut good files (inr steady) = absurd (cut.put.never steady)
 reply_complete_by words reads writes NoMemory cause good files sink = tt
 reply_complete_by words reads writes ran cause good files sink = refl
+
+pub reply_or_fault_by : (words : List (List ℕ)) (reads : Reads) (writes : Writes) (ran : Ran) → IsRunOf words reads writes ran → IsAskable reads.held words → IsReplyOrFault ran
+reply_or_fault_by words reads writes (Done tables) cause good = absurd (one_kind (command_of words) cause.reported.read.command good.query cause.reported.read.said good.said)
+reply_or_fault_by words reads writes (Shown summary tables) cause good = absurd (no_demo (command_of words) good.query cause.count good.said cause.said)
+reply_or_fault_by words reads writes (Refused error) (cause, silent) good = absurd (one_kind (command_of words) cause.read.command good.query cause.read.said good.said)
+reply_or_fault_by words reads writes (BadWords index) (wrong, silent) good = absurd (not_both (command_of words) (for_query good.query) index good.said wrong)
+reply_or_fault_by words reads writes (BadLayout line) (cause, silent) good = absurd (one_kind (command_of words) cause.command good.query cause.said good.said)
+reply_or_fault_by words reads writes (ReadFault index) cause good = tt
+reply_or_fault_by words reads writes (FileTooLong index) (cause, silent) good = absurd (no_asked_fault reads.held words _ cause.command good cause.said cause.longer)
+reply_or_fault_by words reads writes WriteFault cause good = tt
+reply_or_fault_by words reads writes NoMemory cause good = tt
+reply_or_fault_by words reads writes ran cause good = refl
+
+-- the clauses of `demo`
+pub shown_by : (words : List (List ℕ)) (reads : Reads) (writes : Writes) (ran : Ran) → IsRunOf words reads writes ran → IfShown ran (λ summary index sframe outcome. IsShown words summary index sframe outcome writes)
+shown_by words reads writes (Shown summary tables) cause = cause
+shown_by words reads writes ran cause = tt
+
+-- `demo` names no file
+no_file : (words : List (List ℕ)) (command : Request) (count index : ℕ) → command_of words ≡ Ok command → command_of words ≡ Ok (for_demo count) → NamesFile command index → ⊥
+no_file words command count index said is names =
+    let P : Request → Type 0 = λ c. NamesFile c index in
+    subst P (same_ok (command_of words) command (for_demo count) said is) names
+
+pub shown_or_fault_by : (words : List (List ℕ)) (reads : Reads) (writes : Writes) (ran : Ran) (count : ℕ) → IsRunOf words reads writes ran → command_of words ≡ Ok (for_demo count) → IsShownOrFault ran
+shown_or_fault_by words reads writes (Done tables) count cause said = not_demo (command_of words) cause.reported.read.command count cause.reported.read.said said
+shown_or_fault_by words reads writes (Shown summary tables) count cause said = tt
+shown_or_fault_by words reads writes (Refused error) count (cause, silent) said = not_demo (command_of words) cause.read.command count cause.read.said said
+shown_or_fault_by words reads writes (BadWords index) count (wrong, silent) said = not_both (command_of words) (for_demo count) index said wrong
+shown_or_fault_by words reads writes (BadLayout line) count (cause, silent) said = not_demo (command_of words) cause.command count cause.said said
+shown_or_fault_by words reads writes (ReadFault index) count (cause, silent) said = no_file words cause.command count index cause.said said cause.names
+shown_or_fault_by words reads writes (FileTooLong index) count (cause, silent) said = no_file words cause.command count index cause.said said cause.names
+shown_or_fault_by words reads writes WriteFault count cause said = tt
+shown_or_fault_by words reads writes NoMemory count cause said = tt
+shown_or_fault_by words reads writes ran count cause said = no_demo (command_of words) cause.replied.query count cause.replied.said said
+
+pub shown_complete_by : (words : List (List ℕ)) (reads : Reads) (writes : Writes) (ran : Ran) (count : ℕ) → IsRunOf words reads writes ran → command_of words ≡ Ok (for_demo count) → (Rose writes.faults writes.faults_now → ⊥) ⊎ IsTrue writes.steady → IsShownOrNoMemory ran
+shown_complete_by words reads writes ran count cause said sink = at ran (shown_or_fault_by words reads writes ran count cause said) cause sink
+  where
+    at : (ran : Ran) → IsShownOrFault ran → IsRunOf words reads writes ran → (Rose writes.faults writes.faults_now → ⊥) ⊎ IsTrue writes.steady → IsShownOrNoMemory ran
+    at (Shown summary tables) shown cause sink = tt
+    at WriteFault shown cut (inl quiet) = quiet cut.put.rose
+    at WriteFault shown cut (inr steady) = cut.put.never steady
+    at NoMemory shown cause sink = tt
+    at ran never cause sink = absurd never

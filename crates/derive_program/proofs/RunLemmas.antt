@@ -1,6 +1,7 @@
 -- From the answer for the files that were read to the answer of the whole run.
 use Rattle.std.proofs.Common.{◌≡◌, ◌+◌, ℕ, ◌++◌, List, [], ◌∷◌, length, IfSome, Option, Some, None, Result, Ok, Err, IsTrue, refl, sym, ap, subst, ◌∙◌, ◌⊎◌, inl, inr}
 use Rattle.std.proofs.Math.Seq.{take-length}
+use Rattle.std.proofs.lemmas.List.{append-nil}
 use Rattle.sframe_format.specs.declared.fault.SframeOutcome.{SframeOutcome}
 use Rattle.elf_format.specs.declared.architecture.Architecture.{Architecture}
 use Rattle.elf_format.specs.Span.{AreInside}
@@ -11,14 +12,14 @@ use Rattle.program_files.specs.declared.error.ReadError.TheVariants as read
 use Rattle.program_files.specs.Reading.{Texts, file_limit, texts_read, read_of, reading_fault, within, asked_file, file_names}
 use Rattle.program_io.specs.Contents.{Contents, file_of}
 use Rattle.program_io.specs.Counting.{Rose, RoseBy}
-use Rattle.program_text.specs.Command.{Request, command_of, for_tables, for_query, NamesFile}
+use Rattle.program_text.specs.Command.{Request, command_of, for_tables, for_query, for_demo, NamesFile}
 use Rattle.program_text.specs.Query.{Query, file_asked}
 use Rattle.program_text.specs.Tables.{Tables, version_of}
 use Rattle.derive_program.specs.declared.ran.Ran.{Ran}
-use Rattle.derive_program.specs.declared.ran.Ran.TheVariants.{Done, Found, Located, Absent, Refused, RefusedIndex, RefusedFrames, BadWords, BadLayout, ReadFault, FileTooLong, WriteFault, NoMemory}
-use Rattle.derive_program.specs.steps.Answer.{IsInputOfFiles, IsReportOfFiles, IsAnswerFor, IsTextOfReply, IsQueryAnswer, ran_of_reading}
+use Rattle.derive_program.specs.declared.ran.Ran.TheVariants.{Done, Found, Located, Absent, Shown, Refused, RefusedIndex, RefusedFrames, BadWords, BadLayout, ReadFault, FileTooLong, WriteFault, NoMemory}
+use Rattle.derive_program.specs.steps.Answer.{IsInputOfFiles, IsReportOfFiles, IsAnswerFor, IsTextOfReply, IsQueryAnswer, IsTextOfDemo, IsDemoAnswer, ran_of_reading}
 use Rattle.derive_program.specs.Calls.{HasReadFor, HasReadOf, read_faults_after}
-use Rattle.derive_program.specs.Cause.{HasReport, HasText, of_tables, of_query, IsReplyWritten, IsAttempted, IsNotWritten, Reads, IsRunOf}
+use Rattle.derive_program.specs.Cause.{HasReport, HasText, of_tables, of_query, of_demo, IsReplyWritten, IsAttempted, IsNotWritten, Reads, IsRunOf}
 use Rattle.derive_program.specs.ProgramInput.{ProgramInput, IsInputOf}
 use Rattle.std.specs.Result.{result_err}
 use Rattle.derive_program.specs.Reply.{Reply, IsReply, reply_text}
@@ -208,3 +209,38 @@ after_query query bytes name writes old new ran is all cause = at ran (all ∙ a
 pub counted_query : (query : Query) (bytes : List ℕ) (writes : Writes) (before now : ℕ) (ran : Ran) → now ≡ before → IsQueryAnswer query bytes writes ran → now ≡ read_faults_after ran before
 counted_query query bytes writes before now (ReadFault k) same never = absurd never
 counted_query query bytes writes before now ran same cause = same
+
+-- the summary of a number's tables, as the text of the arguments
+told_demo : (held : Contents) (words : List (List ℕ)) (count : ℕ) → command_of words ≡ Ok (for_demo count) → (text : List ℕ) → IsTextOfDemo count text → HasText held words text
+told_demo held words count said text (summary, index, sframe, outcome, has) = of_demo count said summary index sframe outcome has
+
+pub run_of_demo : (words : List (List ℕ)) (reads : Reads) (writes : Writes) (count : ℕ) (ran : Ran) → command_of words ≡ Ok (for_demo count) → IsDemoAnswer count writes ran → IsRunOf words reads writes ran
+run_of_demo words reads writes count (Shown summary tables) said (text, has, put) = record {
+  count = count;
+  said = said;
+  text = text;
+  summarized = has;
+  put = put;
+}
+run_of_demo words reads writes count WriteFault said cut = record {
+  text = cut.text;
+  told = told_demo reads.held words count said cut.text cut.told;
+  put = cut.put;
+}
+run_of_demo words reads writes count NoMemory said none = ((for_demo count, said), calls_as _ _ writes (told_demo reads.held words count said) none)
+run_of_demo words reads writes count ran said never = absurd never
+
+-- no file was read for a number
+pub reads_of_demo : (result : Result Request ℕ) (count : ℕ) (writes : Writes) (old : List (List ℕ)) (ran : Ran) → result ≡ Ok (for_demo count) → IsDemoAnswer count writes ran → HasReadOf result old old ran
+reads_of_demo result count writes old ran said cause = read_for result (for_demo count) old old ran said (at ran cause)
+  where
+    at : (ran : Ran) → IsDemoAnswer count writes ran → HasReadFor (for_demo count) old old ran
+    at NoMemory cause = (0, sym (append-nil old))
+    at (BadWords k) never = absurd never
+    at (ReadFault k) never = absurd never
+    at (FileTooLong k) never = absurd never
+    at ran cause = sym (append-nil old)
+
+pub counted_demo : (count : ℕ) (writes : Writes) (before : ℕ) (ran : Ran) → IsDemoAnswer count writes ran → before ≡ read_faults_after ran before
+counted_demo count writes before (ReadFault k) never = absurd never
+counted_demo count writes before ran cause = refl

@@ -9,7 +9,8 @@ use Rattle.derivation.specs.declared.error.DeriveError.TheVariants as errors
 use Rattle.derivation.specs.Cause.{HasCause}
 use Rattle.program_io.specs.Contents.{Contents}
 use Rattle.program_io.specs.Counting.{Rose, RoseBy}
-use Rattle.program_text.specs.Command.{Request, command_of, for_tables, for_query, NamesFile}
+use Rattle.program_text.specs.Command.{Request, command_of, for_tables, for_query, for_demo, NamesFile}
+use Rattle.program_text.specs.declared.demo.Summary.{Summary}
 use Rattle.program_text.specs.Query.{Query}
 use Rattle.program_text.specs.Tables.{Tables, version_of}
 use Rattle.program_text.specs.Layout.{LayoutEntries, layout_of}
@@ -17,9 +18,10 @@ use Rattle.program_text.specs.Report.{report_of}
 use Rattle.program_files.specs.declared.error.ReadError.TheVariants.{Unread, TooLong}
 use Rattle.program_files.specs.Reading.{Texts, file_limit, read_of, reading_fault, asked_file}
 use Rattle.derive_program.specs.declared.ran.Ran.{Ran}
-use Rattle.derive_program.specs.declared.ran.Ran.TheVariants.{Done, Found, Located, Absent, Refused, RefusedIndex, RefusedFrames, BadWords, BadLayout, ReadFault, FileTooLong, WriteFault, NoMemory}
+use Rattle.derive_program.specs.declared.ran.Ran.TheVariants.{Done, Found, Located, Absent, Shown, Refused, RefusedIndex, RefusedFrames, BadWords, BadLayout, ReadFault, FileTooLong, WriteFault, NoMemory}
 use Rattle.derive_program.specs.ProgramInput.{texts_of_input, ProgramInput, IsInputOf, derived_from, AreTablesOf, HasTables}
 use Rattle.derive_program.specs.Reply.{Reply, elements_found, function_found, nothing_found, bad_index, bad_frames, IsReply, reply_text, reply_in}
+use Rattle.derive_program.specs.Shown.{HasSummary, IsShown}
 use Rattle.derive_program.specs.Writing.{Writes, IsSilent, IsPutOnce, IsReportWritten, IsPrefixWritten, IsWhole}
 
 -- a file that an argument of the command names was not read: where the files are steady, it is the first that is not held, and each before it was read
@@ -90,10 +92,11 @@ pub record IsReplyWritten (held : Contents) (words : List (List ℕ)) (reply : R
   pub replied : IsReplied held words reply text
   pub whole : IsWhole writes text
 
--- the text of a command: the report of tables, or the text of a reply
+-- the text of a command: the report of tables, the text of a reply, or the summary of a number's tables
 pub data HasText (held : Contents) (words : List (List ℕ)) (text : List ℕ) : Type 0 where
   of_tables : (index sframe : List ℕ) → (outcome : SframeOutcome) → HasReport (IsInputOf held words) index sframe outcome text → HasText held words text
   of_query : (reply : Reply) → IsReplied held words reply (Some text) → HasText held words text
+  of_demo : (count : ℕ) → command_of words ≡ Ok (for_demo count) → (summary : Summary) → (index sframe : List ℕ) → (outcome : SframeOutcome) → HasSummary count summary index sframe outcome text → HasText held words text
 
 -- a text as described was put in one call, which failed after a prefix of it
 pub record IsCutOff (Text : List ℕ → Type 0) (writes : Writes) : Type 0 where
@@ -174,6 +177,13 @@ abbrev pub IsReplyOrNoMemory : Ran → Type 0
 IsReplyOrNoMemory NoMemory = Unit {0}
 IsReplyOrNoMemory ran = IsSome (reply_in ran)
 
+-- a reply is answered, memory ran out, or the read or the write failed
+abbrev pub IsReplyOrFault : Ran → Type 0
+IsReplyOrFault (ReadFault index) = Unit {0}
+IsReplyOrFault WriteFault = Unit {0}
+IsReplyOrFault NoMemory = Unit {0}
+IsReplyOrFault ran = IsSome (reply_in ran)
+
 -- the tables are answered, or memory ran out
 abbrev pub IsDoneOrNoMemory : Ran → Type 0
 IsDoneOrNoMemory (Done tables) = Unit {0}
@@ -188,10 +198,28 @@ IsDoneOrFault WriteFault = Unit {0}
 IsDoneOrFault NoMemory = Unit {0}
 IsDoneOrFault ran = ⊥
 
+-- the tables of a number are shown, or memory ran out
+abbrev pub IsShownOrNoMemory : Ran → Type 0
+IsShownOrNoMemory (Shown summary tables) = Unit {0}
+IsShownOrNoMemory NoMemory = Unit {0}
+IsShownOrNoMemory ran = ⊥
+
+-- the tables of a number are shown, memory ran out, or the write failed
+abbrev pub IsShownOrFault : Ran → Type 0
+IsShownOrFault (Shown summary tables) = Unit {0}
+IsShownOrFault WriteFault = Unit {0}
+IsShownOrFault NoMemory = Unit {0}
+IsShownOrFault ran = ⊥
+
 -- a fact of the tables that are answered
 abbrev pub IfDone : Ran → (List ℕ → List ℕ → SframeOutcome → Type 0) → Type 0
 IfDone (Done tables) P = P tables.index.items tables.sframe.items tables.outcome
 IfDone ran P = Unit {0}
+
+-- a fact of the summary and the tables that are shown
+abbrev pub IfShown : Ran → (Summary → List ℕ → List ℕ → SframeOutcome → Type 0) → Type 0
+IfShown (Shown summary tables) P = P summary tables.index.items tables.sframe.items tables.outcome
+IfShown ran P = Unit {0}
 
 -- a fact of the error that is answered
 abbrev pub IfRefused : Ran → (DeriveError → Type 0) → Type 0
@@ -212,6 +240,7 @@ abbrev pub IsRunOf : List (List ℕ) → Reads → Writes → Ran → Type 0
 IsRunOf words reads writes (Done tables) = IsReported (IsInputOf reads.held words) tables.index.items tables.sframe.items tables.outcome writes
 IsRunOf words reads writes (Found answer) = IsReplyWritten reads.held words (elements_found answer.words.items) writes
 IsRunOf words reads writes (Located index) = IsReplyWritten reads.held words (function_found index) writes
+IsRunOf words reads writes (Shown summary tables) = IsShown words summary tables.index.items tables.sframe.items tables.outcome writes
 IsRunOf words reads writes Absent = IsReplyWritten reads.held words nothing_found writes
 IsRunOf words reads writes (RefusedIndex fault) = IsReplyWritten reads.held words (bad_index fault) writes
 IsRunOf words reads writes (RefusedFrames fault) = IsReplyWritten reads.held words (bad_frames fault) writes

@@ -3,6 +3,7 @@ pub mod Cause
 pub mod Laws
 pub mod ProgramInput
 pub mod Reply
+pub mod Shown
 pub mod Status
 pub mod Writing
 pub mod steps

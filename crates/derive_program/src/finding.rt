@@ -16,7 +16,7 @@ use std::marker::Brand;
 use std::sync::ledger::{Blank, Ledger};
 
 /// Looks up a name, with a count of probe steps of its own.
-fn look_up<'a, L: Ledger>(
+pub(crate) fn look_up<'a, L: Ledger>(
     index: &'a [u8],
     name: &[u8],
     blank: Blank,

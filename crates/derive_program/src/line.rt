@@ -68,6 +68,7 @@ impl fmt::Display for Ran {
             Ran::Found(_) => write!(f, "Found"),
             Ran::Located(index) => write!(f, "Located {index}"),
             Ran::Absent => write!(f, "Absent"),
+            Ran::Shown(_, _) => write!(f, "Shown"),
             Ran::Refused(error) => write_error(f, error),
             Ran::RefusedIndex(fault) => write!(f, "RefusedIndex {fault:?}"),
             Ran::RefusedFrames(fault) => {

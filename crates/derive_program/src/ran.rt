@@ -5,6 +5,7 @@ ghost use Rattle.derive_program.specs.Status.{status_of};
 use derivation::DeriveError;
 use gdb_tables::BadIndex;
 use program_files::ReadError;
+use program_text::Summary;
 use sframe_find::FindFault;
 use sframe_format::SframeOutcome;
 
@@ -37,6 +38,8 @@ pub enum Ran {
     Located(usize),
     /// The index does not hold the name, or each function of the SFrame section is above the address.
     Absent,
+    /// The tables of the input of a number were derived, and their summary was written.
+    Shown(Summary, Tables),
     /// The input has no tables.
     Refused(DeriveError),
     /// The index is malformed.
@@ -90,7 +93,7 @@ impl Ran {
         ensures { result ≡ status_of self.now }
     {
         match self {
-            Ran::Done(_) | Ran::Found(_) | Ran::Located(_) => 0,
+            Ran::Done(_) | Ran::Found(_) | Ran::Located(_) | Ran::Shown(_, _) => 0,
             Ran::Refused(_) | Ran::RefusedIndex(_) | Ran::RefusedFrames(_) => 1,
             Ran::BadWords(_) => 2,
             Ran::ReadFault(_) => 3,

@@ -5,19 +5,21 @@ ghost use Rattle.derivation.specs.declared.error.DeriveError.TheVariants as Deri
 ghost use Rattle.program_io.specs.Counting.{Rose};
 ghost use Rattle.program_files.specs.Reading.{file_limit};
 ghost use Rattle.program_text.specs.Arguments.{arguments_of};
-ghost use Rattle.program_text.specs.Command.{command_of, for_tables, for_query};
+ghost use Rattle.program_text.specs.Command.{command_of, for_tables, for_query, for_demo};
 ghost use Rattle.program_text.specs.Query.{query_of};
 ghost use Rattle.program_text.specs.Tables.{object_limit, tables_of};
-ghost use Rattle.derive_program.specs.Cause.{IsRunOf, IsReadFault, IsFileTooLong, IsBadLayout, IsRefused, IsFaulty, IsReported, IsReplyWritten, HasText, IsCutOff, IsUnwritten, IsGood, IsAskable, IsWrongLayout, IsAnswerOf, IsReplyOrNoMemory, IsDoneOrNoMemory, IsDoneOrFault, IfDone, IfRefused};
+ghost use Rattle.derive_program.specs.Cause.{IsRunOf, IsReadFault, IsFileTooLong, IsBadLayout, IsRefused, IsFaulty, IsReported, IsReplyWritten, HasText, IsCutOff, IsUnwritten, IsGood, IsAskable, IsWrongLayout, IsAnswerOf, IsReplyOrNoMemory, IsReplyOrFault, IsDoneOrNoMemory, IsDoneOrFault, IsShownOrNoMemory, IsShownOrFault, IfDone, IfShown, IfRefused};
 ghost use Rattle.derive_program.specs.Calls.{HasReadFor, HasReadOf, read_faults_after, write_faults_after};
 ghost use Rattle.derive_program.specs.ProgramInput.{IsInputOf};
 ghost use Rattle.derive_program.specs.Reply.{Reply, IsReply, reply_in};
+ghost use Rattle.derive_program.specs.Shown.{IsShown};
 ghost use Rattle.derive_program.specs.Status.{may_write};
 ghost use Rattle.derive_program.specs.steps.Answer.{IsAnswerFor, IsWritingOf, IsQueryAnswer};
 
 use crate::finding::find_read;
 use crate::laws::replies_are_one;
 use crate::locating::locate_read;
+use crate::showing::show_demo;
 use crate::{Ran, Tables};
 use derivation::{Derived, derive_tables, inside_is_no_bad_span};
 use elf_format::Architecture;
@@ -171,15 +173,17 @@ fn answer<F: Files, S: Sink>(alloc: Global, words: &[String], files: &mut F, out
     match read_command(words) {
         Ok(Command::Tables(command)) => answer_tables(alloc, &command, files, out),
         Ok(Command::Query(query)) => answer_query(alloc, &query, files, out),
+        Ok(Command::Demo(command)) => show_demo(alloc, command.count, out),
         Err(index) => Ran::BadWords(index),
     }
 }
 
 /// Runs the program: reads the arguments, then the files that they name, each once and in the order of the arguments. For `tables` it then
 /// reads the layout, derives the tables, and puts their report into `out` in one call. For a query it looks up what is asked for in the
-/// bytes of the file, and puts the text of what is found into `out` in one call.
+/// bytes of the file, and puts the text of what is found into `out` in one call. For `demo` it reads no file: it makes the input of the
+/// number, derives its tables, and puts their summary into `out` in one call.
 ///
-/// An answer of a step comes only where every step before it succeeded. `out` is called by `Done`, `Found`, `Located` and `WriteFault`
+/// An answer of a step comes only where every step before it succeeded. `out` is called by `Done`, `Found`, `Located`, `Shown` and `WriteFault`
 /// alone, once, with the whole text; before `NoMemory` maybe once, and then nothing is written. After `WriteFault` a prefix of the text may
 /// be written.
 pub fn run<F: Files, S: Sink>(alloc: Global, words: &[String], files: &mut F, out: &mut S) -> Ran
@@ -217,6 +221,13 @@ pub fn run<F: Files, S: Sink>(alloc: Global, words: &[String], files: &mut F, ou
     ensures replied { (reply : Reply) → reply_in result ≡ Some reply → IsReplyWritten (F.held files.old) (arguments_of words.now) reply (record { steady = S.steady out.old; faults = S.faults out.old; faults_now = S.faults out.new; written = S.written out.old; now = S.written out.new; puts = S.puts out.old; puts_now = S.puts out.new }) }
     ensures reply_exact { (good : IsAskable (F.held files.old) (arguments_of words.now)) (reply : Reply) → IsReply good.query good.bytes reply → ¬ Rose (F.faults files.old) (F.faults files.new) ⊎ IsTrue (F.steady files.old) → IsAnswerOf good.query good.bytes reply result }
     ensures reply_complete { IsAskable (F.held files.old) (arguments_of words.now) → ¬ Rose (F.faults files.old) (F.faults files.new) ⊎ IsTrue (F.steady files.old) → ¬ Rose (S.faults out.old) (S.faults out.new) ⊎ IsTrue (S.steady out.old) → IsReplyOrNoMemory result }
+    ensures reply_or_fault { IsAskable (F.held files.old) (arguments_of words.now) → IsReplyOrFault result }
+
+    // The tables that `demo` shows are those of the defined input of its number, and exactly their summary was put, in one call, and written.
+    // The input has tables, so that it is never refused.
+    ensures shown { IfShown result (λ summary index sframe outcome. IsShown (arguments_of words.now) summary index sframe outcome (record { steady = S.steady out.old; faults = S.faults out.old; faults_now = S.faults out.new; written = S.written out.old; now = S.written out.new; puts = S.puts out.old; puts_now = S.puts out.new })) }
+    ensures shown_complete { (count : ℕ) → command_of (arguments_of words.now) ≡ Ok (for_demo count) → ¬ Rose (S.faults out.old) (S.faults out.new) ⊎ IsTrue (S.steady out.old) → IsShownOrNoMemory result }
+    ensures shown_or_fault { (count : ℕ) → command_of (arguments_of words.now) ≡ Ok (for_demo count) → IsShownOrFault result }
 
     // Good input is done, where no fault was counted or none can be; else memory ran out, or a read or the write failed.
     ensures complete { IsGood (F.held files.old) (arguments_of words.now) → ¬ Rose (F.faults files.old) (F.faults files.new) → ¬ Rose (S.faults out.old) (S.faults out.new) → IsDoneOrNoMemory result }

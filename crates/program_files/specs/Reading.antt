@@ -3,7 +3,7 @@ use Rattle.std.specs.Prelude.{◌≡◌, ℕ, ◌+◌, ◌-◌, ◌^◌, ◌≤�
 use Rattle.program_io.specs.Contents.{Contents, file_of}
 use Rattle.program_io.specs.Counting.{RoseBy, counted}
 use Rattle.std.specs.Result.{result_err}
-use Rattle.program_text.specs.Command.{Request, for_tables, for_query}
+use Rattle.program_text.specs.Command.{Request, for_tables, for_query, for_demo}
 use Rattle.program_text.specs.Query.{Query, file_asked}
 use Rattle.program_text.specs.Tables.{Tables, first_object}
 use Rattle.elf_format.specs.declared.index.Span.{Span}
@@ -86,11 +86,13 @@ files_through tables index = length (tables.layout ∷ take (index - 3) (listed 
 abbrev pub names_of : Request → List (List ℕ)
 names_of (for_tables command) = file_names command
 names_of (for_query query) = file_asked query ∷ []
+names_of (for_demo count) = []
 
 -- how many files the arguments up to this index name, where the argument at the index names one
 abbrev pub names_through : Request → ℕ → ℕ
 names_through (for_tables command) index = files_through command index
 names_through (for_query query) index = 1
+names_through (for_demo count) index = 0
 
 -- the file of a query: its bytes, where it is held and no longer than a file may be
 abbrev pub asked_file : Held → Query → Result (List ℕ) ReadError
@@ -100,6 +102,7 @@ asked_file held query = within 1 file_limit (file_of held (file_asked query))
 abbrev pub reading_fault : Held → Request → Option ReadError
 reading_fault held (for_tables command) = result_err (read_of held command)
 reading_fault held (for_query query) = result_err (asked_file held query)
+reading_fault held (for_demo count) = None
 
 -- the names read for a result: all of them, those up to the file that was refused, or, where memory ran out, some of the first
 abbrev pub HasRead : {T : Type 0} → Tables → List (List ℕ) → List (List ℕ) → Result T ReadError → Type 0

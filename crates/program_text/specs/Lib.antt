@@ -1,5 +1,6 @@
 pub mod Arguments
 pub mod Tables
+pub mod Demo
 pub mod Find
 pub mod Frame
 pub mod Query

@@ -6,6 +6,7 @@ ghost use Rattle.program_text.specs.Arguments.{arguments_of};
 ghost use Rattle.program_text.specs.Command.{command_of, request_of, object_count};
 ghost use Rattle.program_text.specs.Tables.{object_limit};
 
+use crate::demo::{DemoCommand, read_demo};
 use crate::find::read_find;
 use crate::frame::read_frame;
 use crate::query::Query;
@@ -18,6 +19,8 @@ pub enum Command<'w> {
     Tables(TablesCommand<'w>),
     /// One thing is asked of one file.
     Query(Query<'w>),
+    /// The tables of a large input are derived, and a summary of them is written.
+    Demo(DemoCommand),
 }
 
 /// Reads the arguments of the command line, without the program's name.
@@ -43,6 +46,10 @@ pub fn read_command(words: &[String]) -> Result<Command<'_>, usize>
         },
         "frame" => match read_frame(rest) {
             Ok(command) => Ok(Command::Query(Query::Frame(command))),
+            Err(index) => Err(index),
+        },
+        "demo" => match read_demo(rest) {
+            Ok(command) => Ok(Command::Demo(command)),
             Err(index) => Err(index),
         },
         _ => Err(0),

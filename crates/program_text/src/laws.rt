@@ -3,7 +3,7 @@
 ghost use Rattle.std.specs.Prelude.{◌≡◌, ◌↔◌, ◌<◌, ◌^◌, ◌∷◌, [], ℕ, List, Some, None, Ok, Err, codes, decimal};
 ghost use Rattle.elf_format.specs.declared.architecture.Architecture.TheVariants.{X86_64};
 ghost use Rattle.gdb_index_format.specs.declared.version.IndexVersion.TheVariants.{V8, V9};
-ghost use Rattle.program_text.specs.Command.{command_of, for_tables, for_query};
+ghost use Rattle.program_text.specs.Command.{command_of, for_tables, for_query, for_demo};
 ghost use Rattle.program_text.specs.Query.{for_find, for_frame};
 ghost use Rattle.program_text.specs.Tables.{version_of};
 ghost use Rattle.program_text.specs.Number.{number_of};
@@ -52,6 +52,12 @@ pub fn small_commands()
     ensures needless_zero { command_of (codes "frame" ∷ codes "s" ∷ codes "08192" ∷ codes "8242" ∷ []) ≡ Err 2 }
     ensures no_address { command_of (codes "frame" ∷ codes "s" ∷ codes "0" ∷ []) ≡ Err 3 }
     ensures negative_address { command_of (codes "frame" ∷ codes "s" ∷ codes "0" ∷ codes "-1" ∷ []) ≡ Err 3 }
+    ensures a_number { command_of (codes "demo" ∷ codes "1000" ∷ []) ≡ Ok (for_demo 1000) }
+    ensures no_number { command_of (codes "demo" ∷ []) ≡ Err 1 }
+    ensures zero_before_number { command_of (codes "demo" ∷ codes "01" ∷ []) ≡ Err 1 }
+    ensures above_limit { command_of (codes "demo" ∷ codes "1001" ∷ []) ≡ Err 1 }
+    ensures no_digits { command_of (codes "demo" ∷ codes "x" ∷ []) ≡ Err 1 }
+    ensures one_after_number { command_of (codes "demo" ∷ codes "3" ∷ codes "x" ∷ []) ≡ Err 2 }
     ensures one_after_address { command_of (codes "frame" ∷ codes "s" ∷ codes "0" ∷ codes "1" ∷ codes "2" ∷ []) ≡ Err 4 }
 {}
 

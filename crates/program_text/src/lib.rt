@@ -4,6 +4,7 @@
 #![tactic(auto)]
 
 mod command;
+mod demo;
 mod find;
 mod frame;
 mod laws;
@@ -16,6 +17,7 @@ mod report;
 mod tables;
 
 pub use command::{Command, read_command};
+pub use demo::{DemoCommand, Summary, summary_text};
 pub use find::{FindCommand, found_text};
 pub use frame::{FrameCommand, located_text};
 pub use laws::{numbers_have_one_text, small_commands, small_layouts};

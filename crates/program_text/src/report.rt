@@ -20,10 +20,10 @@ const ROW: usize = 32;
 const DIGITS: usize = 20;
 
 /// The most bytes that a line of a word or two and a number takes.
-const LINE: usize = 20 + DIGITS;
+pub(crate) const LINE: usize = 20 + DIGITS;
 
 /// Appends a line of words and numbers.
-fn push_fields(out: &mut Vec<u8>, words: &str, numbers: &[u64]) -> Result<(), AllocError>
+pub(crate) fn push_fields(out: &mut Vec<u8>, words: &str, numbers: &[u64]) -> Result<(), AllocError>
     ensures ok { OnOk result (out.new.items ≡ out.old.items ++ text_of (fields words.now numbers.now ∷ [])) }
 {
     out.extend_from_slice(words.as_bytes())?;
@@ -138,7 +138,7 @@ fn push_names(out: &mut Vec<u8>, names: &[NameWords<'_>]) -> Result<(), AllocErr
 }
 
 /// Appends the line of the outcome.
-fn push_outcome(out: &mut Vec<u8>, outcome: SframeOutcome) -> Result<(), AllocError>
+pub(crate) fn push_outcome(out: &mut Vec<u8>, outcome: SframeOutcome) -> Result<(), AllocError>
     ensures ok { OnOk result (out.new.items ≡ out.old.items ++ text_of (outcome_line outcome ∷ [])) }
 {
     match outcome {

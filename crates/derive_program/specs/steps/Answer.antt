@@ -10,15 +10,18 @@ use Rattle.program_files.specs.declared.error.ReadError.TheVariants as read
 use Rattle.program_files.specs.declared.files_read.FilesRead.{FilesRead}
 use Rattle.program_text.specs.Layout.{LayoutEntries, layout_of}
 use Rattle.derive_program.specs.declared.ran.Ran.{Ran}
-use Rattle.derive_program.specs.declared.ran.Ran.TheVariants.{Done, Refused, BadLayout, ReadFault, FileTooLong, WriteFault, NoMemory}
+use Rattle.derive_program.specs.declared.ran.Ran.TheVariants.{Done, Shown, Refused, BadLayout, ReadFault, FileTooLong, WriteFault, NoMemory}
 use Rattle.gdb_index_format.specs.declared.name_words.NameWords.{NameWords}
 use Rattle.gdb_index_format.specs.declared.unit.CuBoundary.{CuBoundary}
 use Rattle.sframe_format.specs.declared.fault.SframeOutcome.{SframeOutcome}
+use Rattle.program_text.specs.declared.demo.Summary.{Summary}
+use Rattle.program_text.specs.Demo.{shown_of}
 use Rattle.program_text.specs.Query.{Query}
 use Rattle.program_text.specs.Report.{report_of}
 use Rattle.derive_program.specs.Cause.{HasReport, IsRefused, IsReported, IsCutOff, IsNotWritten}
 use Rattle.derive_program.specs.ProgramInput.{ProgramInput}
 use Rattle.derive_program.specs.Reply.{Reply, IsReply, reply_text, reply_in}
+use Rattle.derive_program.specs.Shown.{numbers_of, HasSummary}
 use Rattle.derive_program.specs.Writing.{Writes, IsSilent, IsPutOnce, IsReportWritten, IsPrefixWritten, IsWhole}
 
 -- the input that files are, with a layout
@@ -89,3 +92,23 @@ abbrev pub IsQueryAnswer : Query → List ℕ → Writes → Ran → Type 0
 IsQueryAnswer query bytes writes WriteFault = IsCutOff (IsTextOfReply query bytes) writes
 IsQueryAnswer query bytes writes NoMemory = IsNotWritten (IsTextOfReply query bytes) writes
 IsQueryAnswer query bytes writes ran = IsReplyOf query bytes writes (reply_in ran)
+
+-- the summary of a number's tables was written, a prefix of it was, or memory ran out before or in the one call
+abbrev pub IsSummaryWriting : ℕ → List CuBoundary → List NameWords → List ℕ → List ℕ → SframeOutcome → Writes → Ran → Type 0
+IsSummaryWriting count units names index sframe outcome writes (Shown summary tables) =
+    (summary ≡ numbers_of count units names index) × (tables.index.items ≡ index) × (tables.sframe.items ≡ sframe) × (tables.outcome ≡ outcome) × IsReportWritten writes (shown_of (numbers_of count units names index) outcome)
+IsSummaryWriting count units names index sframe outcome writes WriteFault = IsPrefixWritten writes (shown_of (numbers_of count units names index) outcome)
+IsSummaryWriting count units names index sframe outcome writes NoMemory = IsShortOfMemory (shown_of (numbers_of count units names index) outcome) writes
+IsSummaryWriting count units names index sframe outcome writes ran = ⊥
+
+-- the text of the summary of a number's tables
+abbrev pub IsTextOfDemo : ℕ → List ℕ → Type 0
+IsTextOfDemo count text = (summary : Summary) × (index : List ℕ) × (sframe : List ℕ) × (outcome : SframeOutcome) × HasSummary count summary index sframe outcome text
+
+-- an answer for a number
+abbrev pub IsDemoAnswer : ℕ → Writes → Ran → Type 0
+IsDemoAnswer count writes (Shown summary tables) =
+    (text : List ℕ) × HasSummary count summary tables.index.items tables.sframe.items tables.outcome text × IsReportWritten writes text
+IsDemoAnswer count writes WriteFault = IsCutOff (IsTextOfDemo count) writes
+IsDemoAnswer count writes NoMemory = IsNotWritten (IsTextOfDemo count) writes
+IsDemoAnswer count writes ran = ⊥

@@ -1,5 +1,5 @@
 use Rattle.std.proofs.Common.{inl, inr}
-use Rattle.derive_program.proofs.ClauseLemmas.{cause_at, bad_words, unwritten_by, silent_by, done_by, refused_by, not_span_by, complete_by, complete_or_fault_by, layout_exact_by, refused_exact_by, replied_by, reply_exact_by, reply_complete_by}
+use Rattle.derive_program.proofs.ClauseLemmas.{cause_at, bad_words, unwritten_by, silent_by, done_by, refused_by, not_span_by, complete_by, complete_or_fault_by, layout_exact_by, refused_exact_by, replied_by, reply_exact_by, reply_complete_by, reply_or_fault_by, shown_by, shown_complete_by, shown_or_fault_by}
 use Rattle.derive_program.proofs.steps.run.Goals as goal
 
 pub returns-clause-words : goal.returns-clause-words
@@ -61,3 +61,15 @@ returns-clause-reply_exact g c = λ good reply replies files. reply_exact_by c.r
 
 pub returns-clause-reply_complete : goal.returns-clause-reply_complete
 returns-clause-reply_complete g c = λ good files sink. reply_complete_by _ _ _ _ c.answer.ensures.cause good files sink
+
+pub returns-clause-reply_or_fault : goal.returns-clause-reply_or_fault
+returns-clause-reply_or_fault g c = λ good. reply_or_fault_by _ _ _ _ c.answer.ensures.cause good
+
+pub returns-clause-shown : goal.returns-clause-shown
+returns-clause-shown g c = shown_by _ _ _ _ c.answer.ensures.cause
+
+pub returns-clause-shown_complete : goal.returns-clause-shown_complete
+returns-clause-shown_complete g c = λ count said sink. shown_complete_by _ _ _ _ count c.answer.ensures.cause said sink
+
+pub returns-clause-shown_or_fault : goal.returns-clause-shown_or_fault
+returns-clause-shown_or_fault g c = λ count said. shown_or_fault_by _ _ _ _ count c.answer.ensures.cause said
