@@ -1,4 +1,5 @@
 pub mod AnswerLemmas
 pub mod RunLemmas
+pub mod ShownLemmas
 pub mod ClauseLemmas
 pub mod ReplyLemmas

@@ -1,8 +1,12 @@
 //! Laws of the answers, each as the contract of a function that does nothing.
 
-ghost use Rattle.derive_program.specs.Laws.{RepliesAreOne, KnownRepliesAreOne};
+ghost use Rattle.derive_program.specs.Laws.{RepliesAreOne, KnownRepliesAreOne, SummariesAreOne, SummariesHaveNumber};
 
+use demo_input::demo_holds_numbered_objects;
+use derivation::built_indexes_are_one;
+use gdb_index_format::objects_are_one;
 use sframe_find::{find_causes_are_one, ordered_has_no_cause, scans_are_one};
+use sframe_order::sorted_in_one_way;
 
 /// A query has one reply for the bytes of its file. Where the files are known, the arguments of the command line have one reply and one text.
 pub fn replies_are_one()
@@ -12,4 +16,16 @@ pub fn replies_are_one()
     find_causes_are_one();
     ordered_has_no_cause();
     scans_are_one()
+}
+
+/// The input of a number has one summary, with one text, and one index and SFrame section. The number is in it three times: so many are the
+/// objects, their units, and the elements of `common`.
+pub fn summaries_are_one()
+    ensures one { SummariesAreOne }
+    ensures number { SummariesHaveNumber }
+{
+    built_indexes_are_one();
+    sorted_in_one_way();
+    objects_are_one();
+    demo_holds_numbered_objects()
 }

@@ -15,7 +15,7 @@ mod steps;
 
 pub use arguments::collect_words;
 pub use derivation::{DeriveError, Derived, derive_tables};
-pub use laws::replies_are_one;
+pub use laws::{replies_are_one, summaries_are_one};
 pub use program_io::{
     DiskFiles, FileFault, Files, MemoryFiles, MemorySink, Sink, SinkFault, StreamSink,
 };

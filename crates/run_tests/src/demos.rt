@@ -9,8 +9,11 @@ use std::test::Fail;
 
 /// The summaries of no object, of one, of three and of 1000.
 const NONE: &str = "objects 0\nunits 0\nnames 0\nindex 0\ncommon 0\noutcome none\n";
+
 const ONE: &str = "objects 1\nunits 1\nnames 2\nindex 132\ncommon 1\noutcome sorted 51\n";
+
 const THREE: &str = "objects 3\nunits 3\nnames 4\nindex 270\ncommon 3\noutcome sorted 97\n";
+
 const THOUSAND: &str =
     "objects 1000\nunits 1000\nnames 1001\nindex 69431\ncommon 1000\noutcome sorted 23028\n";
 
