@@ -11,6 +11,7 @@ use Rattle.derivation.specs.declared.error.DeriveError.{DeriveError}
 use Rattle.derivation.specs.declared.error.DeriveError.TheVariants as errors
 use Rattle.program_files.specs.declared.files_read.FilesRead.{FilesRead}
 use Rattle.program_text.specs.Layout.{LayoutEntries, layout_of}
+use Rattle.program_text.specs.declared.demo.Summary.{Summary}
 use Rattle.program_text.specs.Demo.{shown_of}
 use Rattle.program_text.specs.Query.{Query}
 use Rattle.program_text.specs.Report.{report_of}
@@ -127,38 +128,37 @@ after_reply query bytes reply text writes ran replies is (answered, put) =
     subst P (sym answered) (replies, subst Q (sym is) put)
 
 -- the summary of tables
-summary_with : (count : ℕ) (units : List CuBoundary) (names : List NameWords) (index sframe : List ℕ) (outcome : SframeOutcome) → AreTablesOf (numbered_input count) units names index sframe outcome → HasSummary count (numbers_of count units names index) index sframe outcome (shown_of (numbers_of count units names index) outcome)
-summary_with count units names index sframe outcome are = record { units = units; names = names; tables = are; numbers = refl; report = refl }
+summary_with : (count : ℕ) (units : List CuBoundary) (names : List NameWords) (index sframe : List ℕ) (outcome : SframeOutcome) (summary : Summary) → AreTablesOf (numbered_input count) units names index sframe outcome → summary ≡ numbers_of count units names index → HasSummary count summary index sframe outcome (shown_of summary outcome)
+summary_with count units names index sframe outcome summary are numbers = record { units = units; names = names; tables = are; numbers = numbers; report = refl }
 
 -- there was no call, or one with the summary
-summary_calls : (count : ℕ) (units : List CuBoundary) (names : List NameWords) (index sframe : List ℕ) (outcome : SframeOutcome) (writes : Writes) → AreTablesOf (numbered_input count) units names index sframe outcome → (writes.puts_now ≡ writes.puts) ⊎ IsPutOnce writes (shown_of (numbers_of count units names index) outcome) → (writes.puts_now ≡ writes.puts) ⊎ IsAttempted (IsTextOfDemo count) writes
-summary_calls count units names index sframe outcome writes are (inl none) = inl none
-summary_calls count units names index sframe outcome writes are (inr once) =
-    inr (record { text = shown_of (numbers_of count units names index) outcome; told = (numbers_of count units names index, index, sframe, outcome, summary_with count units names index sframe outcome are); once = once })
+summary_calls : (count : ℕ) (index sframe : List ℕ) (outcome : SframeOutcome) (summary : Summary) (writes : Writes) → HasSummary count summary index sframe outcome (shown_of summary outcome) → (writes.puts_now ≡ writes.puts) ⊎ IsPutOnce writes (shown_of summary outcome) → (writes.puts_now ≡ writes.puts) ⊎ IsAttempted (IsTextOfDemo count) writes
+summary_calls count index sframe outcome summary writes has (inl none) = inl none
+summary_calls count index sframe outcome summary writes has (inr once) = inr (record { text = shown_of summary outcome; told = (summary, index, sframe, outcome, has); once = once })
 
 -- from the writing of the summary of a number's tables to the answer for the number
-pub after_summary : (count : ℕ) (units : List CuBoundary) (names : List NameWords) (index sframe : List ℕ) (outcome : SframeOutcome) (writes : Writes) (ran : Ran) → AreTablesOf (numbered_input count) units names index sframe outcome → IsSummaryWriting count units names index sframe outcome writes ran → IsDemoAnswer count writes ran
-after_summary count units names index sframe outcome writes (Shown summary tables) are (n, i, s, o, put) = (
-  shown_of (numbers_of count units names index) outcome,
+pub after_summary : (count : ℕ) (units : List CuBoundary) (names : List NameWords) (index sframe : List ℕ) (outcome : SframeOutcome) (summary : Summary) (writes : Writes) (ran : Ran) → AreTablesOf (numbered_input count) units names index sframe outcome → summary ≡ numbers_of count units names index → IsSummaryWriting summary index sframe outcome writes ran → IsDemoAnswer count writes ran
+after_summary count units names index sframe outcome summary writes (Shown shown tables) are numbers (n, i, s, o, put) = (
+  shown_of summary outcome,
   record {
     units = units;
     names = names;
     tables = tables_named (numbered_input count) units names _ _ _ _ _ _ i s o are;
-    numbers = n ∙ ap (λ x. numbers_of count units names x) (sym i);
-    report = ap (λ x. shown_of x outcome) (sym n) ∙ ap (λ x. shown_of summary x) (sym o);
+    numbers = n ∙ numbers ∙ ap (λ x. numbers_of count units names x) (sym i);
+    report = ap (λ x. shown_of x outcome) (sym n) ∙ ap (λ x. shown_of shown x) (sym o);
   },
   put,
 )
-after_summary count units names index sframe outcome writes WriteFault are put = record {
-  text = shown_of (numbers_of count units names index) outcome;
-  told = (numbers_of count units names index, index, sframe, outcome, summary_with count units names index sframe outcome are);
+after_summary count units names index sframe outcome summary writes WriteFault are numbers put = record {
+  text = shown_of summary outcome;
+  told = (summary, index, sframe, outcome, summary_with count units names index sframe outcome summary are numbers);
   put = put;
 }
-after_summary count units names index sframe outcome writes NoMemory are (same, calls) = record {
+after_summary count units names index sframe outcome summary writes NoMemory are numbers (same, calls) = record {
   written = same;
-  calls = summary_calls count units names index sframe outcome writes are calls;
+  calls = summary_calls count index sframe outcome summary writes (summary_with count units names index sframe outcome summary are numbers) calls;
 }
-after_summary count units names index sframe outcome writes ran are never = absurd never
+after_summary count units names index sframe outcome summary writes ran are numbers never = absurd never
 
 -- an input that has tables is not refused
 pub after_no_refusal : (count : ℕ) (error : DeriveError) (writes : Writes) (ran : Ran) → error ≡ errors.NoMemory → IsSilent writes → IsRefusalOf error ran → IsDemoAnswer count writes ran

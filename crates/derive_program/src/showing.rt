@@ -2,7 +2,7 @@
 ghost use Rattle.std.specs.Prelude.{◌≡◌, ◌≤◌, codes};
 ghost use Rattle.gdb_index_format.specs.Probe.{probe};
 ghost use Rattle.derive_program.specs.Calls.{write_faults_after};
-ghost use Rattle.derive_program.specs.Shown.{elements_probed};
+ghost use Rattle.derive_program.specs.Shown.{elements_probed, numbers_of};
 ghost use Rattle.derive_program.specs.steps.Answer.{IsDemoAnswer, IsSummaryWriting};
 
 use crate::finding::look_up;
@@ -28,20 +28,26 @@ fn common_elements(index: &[u8]) -> usize
     }
 }
 
-/// Writes the summary of the tables of so many objects, in one call.
-fn write_summary<S: Sink>(alloc: Global, count: usize, derived: Derived<'_>, out: &mut S) -> Ran
-    ensures steady { S.steady out.new ≡ S.steady out.old }
-    ensures faults { S.faults out.old ≤ S.faults out.new }
-    ensures counted { S.faults out.new ≡ write_faults_after result (S.faults out.old) }
-    ensures answer { IsSummaryWriting count derived.entry.units.items derived.entry.names.items derived.entry.index.items derived.entry.sframe.items derived.entry.outcome (record { steady = S.steady out.old; faults = S.faults out.old; faults_now = S.faults out.new; written = S.written out.old; now = S.written out.new; puts = S.puts out.old; puts_now = S.puts out.new }) result }
+/// Returns the numbers of the tables of so many objects.
+fn summarize(count: usize, derived: &Derived<'_>) -> Summary
+    ensures { result ≡ numbers_of count derived.now.units.items derived.now.names.items derived.now.index.items }
 {
-    let summary = Summary {
+    Summary {
         objects: count,
         units: derived.units.len(),
         names: derived.names.len(),
         index: derived.index.len(),
         common: common_elements(&derived.index),
-    };
+    }
+}
+
+/// Writes the summary of tables, in one call.
+fn write_summary<S: Sink>(alloc: Global, summary: Summary, derived: Derived<'_>, out: &mut S) -> Ran
+    ensures steady { S.steady out.new ≡ S.steady out.old }
+    ensures faults { S.faults out.old ≤ S.faults out.new }
+    ensures counted { S.faults out.new ≡ write_faults_after result (S.faults out.old) }
+    ensures answer { IsSummaryWriting summary derived.entry.index.items derived.entry.sframe.items derived.entry.outcome (record { steady = S.steady out.old; faults = S.faults out.old; faults_now = S.faults out.new; written = S.written out.old; now = S.written out.new; puts = S.puts out.old; puts_now = S.puts out.new }) result }
+{
     let Ok(text) = summary_text(alloc, &summary, derived.outcome) else {
         return Ran::NoMemory;
     };
@@ -81,7 +87,10 @@ pub(crate) fn show_demo<S: Sink>(alloc: Global, count: usize, out: &mut S) -> Ra
         0,
         IndexVersion::V9,
     ) {
-        Ok(derived) => write_summary(alloc, count, derived, out),
+        Ok(derived) => {
+            let summary = summarize(count, &derived);
+            write_summary(alloc, summary, derived, out)
+        }
         Err(error) => Ran::from(error),
     }
 }

@@ -21,7 +21,7 @@ use Rattle.program_text.specs.Report.{report_of}
 use Rattle.derive_program.specs.Cause.{HasReport, IsRefused, IsReported, IsCutOff, IsNotWritten}
 use Rattle.derive_program.specs.ProgramInput.{ProgramInput}
 use Rattle.derive_program.specs.Reply.{Reply, IsReply, reply_text, reply_in}
-use Rattle.derive_program.specs.Shown.{numbers_of, HasSummary}
+use Rattle.derive_program.specs.Shown.{HasSummary}
 use Rattle.derive_program.specs.Writing.{Writes, IsSilent, IsPutOnce, IsReportWritten, IsPrefixWritten, IsWhole}
 
 -- the input that files are, with a layout
@@ -93,13 +93,13 @@ IsQueryAnswer query bytes writes WriteFault = IsCutOff (IsTextOfReply query byte
 IsQueryAnswer query bytes writes NoMemory = IsNotWritten (IsTextOfReply query bytes) writes
 IsQueryAnswer query bytes writes ran = IsReplyOf query bytes writes (reply_in ran)
 
--- the summary of a number's tables was written, a prefix of it was, or memory ran out before or in the one call
-abbrev pub IsSummaryWriting : ℕ → List CuBoundary → List NameWords → List ℕ → List ℕ → SframeOutcome → Writes → Ran → Type 0
-IsSummaryWriting count units names index sframe outcome writes (Shown summary tables) =
-    (summary ≡ numbers_of count units names index) × (tables.index.items ≡ index) × (tables.sframe.items ≡ sframe) × (tables.outcome ≡ outcome) × IsReportWritten writes (shown_of (numbers_of count units names index) outcome)
-IsSummaryWriting count units names index sframe outcome writes WriteFault = IsPrefixWritten writes (shown_of (numbers_of count units names index) outcome)
-IsSummaryWriting count units names index sframe outcome writes NoMemory = IsShortOfMemory (shown_of (numbers_of count units names index) outcome) writes
-IsSummaryWriting count units names index sframe outcome writes ran = ⊥
+-- a summary was written, a prefix of it was, or memory ran out before or in the one call
+abbrev pub IsSummaryWriting : Summary → List ℕ → List ℕ → SframeOutcome → Writes → Ran → Type 0
+IsSummaryWriting summary index sframe outcome writes (Shown shown tables) =
+    (shown ≡ summary) × (tables.index.items ≡ index) × (tables.sframe.items ≡ sframe) × (tables.outcome ≡ outcome) × IsReportWritten writes (shown_of summary outcome)
+IsSummaryWriting summary index sframe outcome writes WriteFault = IsPrefixWritten writes (shown_of summary outcome)
+IsSummaryWriting summary index sframe outcome writes NoMemory = IsShortOfMemory (shown_of summary outcome) writes
+IsSummaryWriting summary index sframe outcome writes ran = ⊥
 
 -- the text of the summary of a number's tables
 abbrev pub IsTextOfDemo : ℕ → List ℕ → Type 0
