@@ -1,5 +1,5 @@
 -- The clauses of a run, each from the cause of its answer.
-use Rattle.std.proofs.Common.{◌≡◌, ◌≢◌, ℕ, ◌⊎◌, length, Bool, true, false, List, Option, Some, None, IfSome, is_some, Result, Ok, Err, IsTrue, refl, sym, ap, subst, ◌∙◌, inl, inr}
+use Rattle.std.proofs.Common.{◌≡◌, ◌≢◌, ℕ, ◌⊎◌, length, false, List, Option, Some, None, IfSome, is_some, Result, Ok, Err, IsTrue, refl, sym, ap, subst, ◌∙◌, inl, inr}
 use Rattle.std.proofs.lemmas.Bool.{false≢true}
 use Rattle.elf_format.specs.Span.{AreInside}
 use Rattle.sframe_format.specs.declared.fault.SframeOutcome.{SframeOutcome}

@@ -8,7 +8,6 @@ use Rattle.program_text.specs.Command.{command_of}
 use Rattle.program_text.specs.Frame.{FrameQuery}
 use Rattle.program_text.specs.Query.{Query, for_find, for_frame}
 use Rattle.program_files.specs.Reading.{asked_file}
-use Rattle.derive_program.specs.Cause.{IsReplied}
 use Rattle.derive_program.specs.Laws.{RepliesAreOne, KnownRepliesAreOne}
 use Rattle.derive_program.specs.Reply.{Reply, function_found, nothing_found, bad_frames, IsFrameReply, IsReply, reply_text, located_in}
 use Rattle.derive_program.specs.declared.ran.Ran.{Ran}

@@ -1,7 +1,6 @@
 -- From the answer for the files that were read to the answer of the whole run.
-use Rattle.std.proofs.Common.{◌≡◌, ◌+◌, ℕ, ◌++◌, List, [], ◌∷◌, length, IfSome, Option, Some, None, Result, Ok, Err, IsTrue, refl, sym, ap, subst, ◌∙◌, ◌⊎◌, inl, inr}
+use Rattle.std.proofs.Common.{◌≡◌, ◌+◌, ℕ, ◌++◌, List, [], ◌∷◌, length, IfSome, Some, None, Result, Ok, Err, IsTrue, refl, sym, ap, subst, ◌∙◌, ◌⊎◌, inl, inr}
 use Rattle.std.proofs.Math.Seq.{take-length}
-use Rattle.std.proofs.lemmas.List.{append-nil}
 use Rattle.sframe_format.specs.declared.fault.SframeOutcome.{SframeOutcome}
 use Rattle.elf_format.specs.declared.architecture.Architecture.{Architecture}
 use Rattle.elf_format.specs.Span.{AreInside}
@@ -229,18 +228,3 @@ run_of_demo words reads writes count WriteFault said cut = record {
 }
 run_of_demo words reads writes count NoMemory said none = ((for_demo count, said), calls_as _ _ writes (told_demo reads.held words count said) none)
 run_of_demo words reads writes count ran said never = absurd never
-
--- no file was read for a number
-pub reads_of_demo : (result : Result Request ℕ) (count : ℕ) (writes : Writes) (old : List (List ℕ)) (ran : Ran) → result ≡ Ok (for_demo count) → IsDemoAnswer count writes ran → HasReadOf result old old ran
-reads_of_demo result count writes old ran said cause = read_for result (for_demo count) old old ran said (at ran cause)
-  where
-    at : (ran : Ran) → IsDemoAnswer count writes ran → HasReadFor (for_demo count) old old ran
-    at NoMemory cause = (0, sym (append-nil old))
-    at (BadWords k) never = absurd never
-    at (ReadFault k) never = absurd never
-    at (FileTooLong k) never = absurd never
-    at ran cause = sym (append-nil old)
-
-pub counted_demo : (count : ℕ) (writes : Writes) (before : ℕ) (ran : Ran) → IsDemoAnswer count writes ran → before ≡ read_faults_after ran before
-counted_demo count writes before (ReadFault k) never = absurd never
-counted_demo count writes before ran cause = refl

@@ -9,7 +9,7 @@ use Rattle.gdb_index_format.specs.declared.bad_index.BadIndex.{BadIndex}
 use Rattle.gdb_index_format.specs.declared.name_words.NameWords.{NameWords}
 use Rattle.gdb_index_format.specs.declared.unit.CuBoundary.{CuBoundary}
 use Rattle.gdb_index_format.specs.declared.version.IndexVersion.TheVariants.{V9}
-use Rattle.gdb_index_format.specs.Named.{all_named, named, IsAnswer}
+use Rattle.gdb_index_format.specs.Named.{Named, all_named, named, IsAnswer}
 use Rattle.gdb_index_format.specs.Objects.{AreObjectsOf, ObjectsAreOne}
 use Rattle.gdb_index_format.specs.Probe.{probe}
 use Rattle.gdb_index_format.specs.Published.{Pair, published, units_of_all, elements_in_order}
@@ -38,7 +38,7 @@ numbers_with objects units names index = record {
 
 same_numbers : (count : ℕ) (us vs : List CuBoundary) (ns ms : List NameWords) (i j : List ℕ) → us ≡ vs → all_named ns ≡ all_named ms → i ≡ j → numbers_of count us ns i ≡ numbers_of count vs ms j
 same_numbers count us vs ns ms i j u n is =
-    let names_are : length ns ≡ length ms = sym (length-map named ns) ∙ ap length n ∙ length-map named ms in
+    let names_are : length ns ≡ length ms = sym (length-map ns named) ∙ ap (λ (l : List Named). length l) n ∙ length-map ms named in
     ap (λ (l : List CuBoundary). numbers_with count (length l) (length ns) i) u
     ∙ ap (λ (k : ℕ). numbers_with count (length vs) k i) names_are
     ∙ ap (λ (l : List ℕ). numbers_with count (length vs) (length ms) l) is

@@ -1,5 +1,5 @@
 -- Why the program answers as it does: what it read, and what it wrote.
-use Rattle.std.specs.Prelude.{◌≡◌, ◌≢◌, ◌+◌, ℕ, ◌⊎◌, Bool, List, length, Result, Ok, Err, Option, Some, IfSome, IsSome, IsTrue}
+use Rattle.std.specs.Prelude.{◌≡◌, ◌≢◌, ◌+◌, ℕ, ◌⊎◌, Bool, List, length, Ok, Err, Option, Some, IfSome, IsSome, IsTrue}
 use Rattle.elf_format.specs.Span.{AreInside}
 use Rattle.gdb_index_format.specs.declared.unit.CuBoundary.{CuBoundary}
 use Rattle.gdb_index_format.specs.declared.name_words.NameWords.{NameWords}

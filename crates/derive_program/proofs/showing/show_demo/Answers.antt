@@ -1,4 +1,4 @@
-use Rattle.std.proofs.Common.{◌≡◌, ◌∙◌, sym, refl}
+use Rattle.std.proofs.Common.{◌∙◌, sym, refl}
 use Rattle.elf_format.specs.declared.architecture.Architecture.TheVariants.{X86_64}
 use Rattle.gdb_index_format.specs.declared.version.IndexVersion.TheVariants.{V9}
 use Rattle.derive_program.specs.ProgramInput.{ProgramInput, AreTablesOf, HasTables}
@@ -13,7 +13,7 @@ returns-in-Ok-derive_tables-clause-answer g c =
     let facts = c.in-Ok-derive_tables.ensures in
     let P : ProgramInput → Type 0 = λ i. AreTablesOf i derived.units.items derived.names.items derived.index.items derived.sframe.items derived.outcome in
     let are = of_same _ _ P same (record { has = facts.valid; listed = facts.index; ordered = facts.sframe }) in
-    after_summary c.args.count _ _ _ _ _ _ _ _ are c.summarize.ensures c.write_summary.ensures.answer
+    after_summary c.args.count _ _ _ _ _ _ _ _ are c.summarize-summary.ensures c.write_summary.ensures.answer
 
 pub returns-clause-answer : goal.returns-clause-answer
 returns-clause-answer g c =
