@@ -3,3 +3,7 @@ pub mod OneSplit
 pub mod Linking
 pub mod Sizes
 pub mod ByHand
+pub mod Ranges
+pub mod Linked
+pub mod Starting
+pub mod Taking

@@ -27,7 +27,7 @@ last_of_pair b n f (Some p) = refl
 last_of_pair true n f None = refl
 last_of_pair false n f None = refl
 
-last_cons : (section n : ℕ) (f : Frame) (fs : List Frame) → last_from section n (f ∷ fs) ≡ option_or (last_from section (n + 1) fs) (cond (is_for section f) (Some n) None)
+pub last_cons : (section n : ℕ) (f : Frame) (fs : List Frame) → last_from section n (f ∷ fs) ≡ option_or (last_from section (n + 1) fs) (cond (is_for section f) (Some n) None)
 last_cons section n f fs = last_of_pair (is_for section f) n f (last_that (λ p. is_for section p.1) (enumerate_from (n + 1) fs))
 
 -- ---- counted from another number

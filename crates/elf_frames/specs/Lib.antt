@@ -6,3 +6,4 @@ pub mod Cause
 pub mod Laws
 pub mod Shown
 pub mod FrameExample
+pub mod steps

@@ -1,5 +1,5 @@
 -- What contracts see of CIEs and frames. The parameters of the types are the class and the types of its records.
-use Rattle.std.specs.Prelude.{ℕ, List, [], ◌∷◌, slice_get, Option, option_map}
+use Rattle.std.specs.Prelude.{ℕ, List, [], ◌∷◌, map, slice_get, Option, option_map}
 use Rattle.std.specs.Option.{option_flatten}
 use Rattle.elf_format.specs.declared.index.SectionIndex.{SectionIndex}
 use Rattle.elf_format.specs.Class.{Class}
@@ -28,3 +28,7 @@ shown_previous f = option_map (λ i. i.0) f.previous_frame_for_section
 -- the last frame of a section, by a list with an entry for each of the first sections
 abbrev pub last_in : List (Option FrameIndex) → ℕ → Option ℕ
 last_in last section = option_map (λ i. i.0) (option_flatten (slice_get last section))
+
+-- the sections that frames are for
+abbrev pub sections_of : List Frame → List SectionIndex
+sections_of fs = map (λ f. record { 0 = f.section }) fs

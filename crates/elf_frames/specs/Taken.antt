@@ -80,12 +80,13 @@ abbrev pub if_loadable : List Bool → Option ℕ → Option ℕ
 if_loadable loadable None = None
 if_loadable loadable (Some section) = if is_loadable loadable section then Some section else None
 
--- the CIE that an entry is. It may be shared where each of its relocations has a symbol.
+-- an entry as a CIE. It may be shared where each of its relocations has a symbol.
+abbrev pub cie_at : FrameInput → FrameEntry → Cie
+cie_at input e = record { offset = e.offset; bytes = bytes_at input.bytes e.offset e.size; eligible_for_deduplication = list_all has_symbol (entry_relocations input.relocations e) }
+
+-- the CIE that an entry is
 abbrev pub cie_of : FrameInput → FrameEntry → Option Cie
-cie_of input e =
-    if is_cie input.bytes e
-    then Some (record { offset = e.offset; bytes = bytes_at input.bytes e.offset e.size; eligible_for_deduplication = list_all has_symbol (entry_relocations input.relocations e) })
-    else None
+cie_of input e = if is_cie input.bytes e then Some (cie_at input e) else None
 
 abbrev pub frame_for : FrameInput → FrameEntry → ℕ → Frame
 frame_for input e section = record { section = section; relocations = entry_relocations input.relocations e; size = e.size; eh_frame_section = input.section }

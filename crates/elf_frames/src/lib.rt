@@ -3,11 +3,20 @@
 //! say which. Frames of one section are linked, from the last to the first. All is generic over the class.
 #![tactic(auto)]
 
+mod eh_frames;
+mod entry;
 mod error;
 mod examples;
 mod frame;
 mod laws;
+mod links;
+mod parts;
+mod source;
+mod split;
+mod starts;
 
+pub use eh_frames::EhFrames;
+pub use entry::is_eh_frame_terminator;
 pub use error::FrameError;
 pub use examples::{
     bytes_at_the_end, frames_are_linked, small_sections_are_refused, small_sections_are_split,
@@ -17,3 +26,4 @@ pub use laws::{
     forms_agree, later_frames_come_first, previous_frames_are_lower, splits_are_one,
     splits_are_within,
 };
+pub use split::split_eh_frame;
