@@ -21,7 +21,7 @@ use Rattle.derive_program.specs.steps.Answer.{program_input_of, IsInputOfFiles, 
 use Rattle.derive_program.specs.Cause.{HasCauseIn, HasReport, IsAttempted}
 use Rattle.derive_program.specs.ProgramInput.{ProgramInput, AreTablesOf, HasTables}
 use Rattle.derive_program.specs.Reply.{Reply, IsReply, reply_text}
-use Rattle.derive_program.specs.Shown.{numbered_input, numbers_of, HasSummary}
+use Rattle.derive_program.specs.Shown.{numbered_input, summary_of, HasSummary}
 use Rattle.derive_program.specs.Writing.{Writes, IsSilent, IsPutOnce, IsWhole}
 
 -- an input of these parts
@@ -128,29 +128,29 @@ after_reply query bytes reply text writes ran replies is (answered, put) =
     subst P (sym answered) (replies, subst Q (sym is) put)
 
 -- the summary of tables
-summary_with : (count : ℕ) (units : List CuBoundary) (names : List NameWords) (index sframe : List ℕ) (outcome : SframeOutcome) (summary : Summary) → AreTablesOf (numbered_input count) units names index sframe outcome → summary ≡ numbers_of count units names index → HasSummary count summary index sframe outcome (shown_of summary outcome)
+summary_with : (count : ℕ) (units : List CuBoundary) (names : List NameWords) (index sframe : List ℕ) (outcome : SframeOutcome) (summary : Summary) → AreTablesOf (numbered_input count) units names index sframe outcome → summary ≡ summary_of count units names index outcome → HasSummary count summary index sframe outcome (shown_of summary)
 summary_with count units names index sframe outcome summary are numbers = record { units = units; names = names; tables = are; numbers = numbers; report = refl }
 
 -- there was no call, or one with the summary
-summary_calls : (count : ℕ) (index sframe : List ℕ) (outcome : SframeOutcome) (summary : Summary) (writes : Writes) → HasSummary count summary index sframe outcome (shown_of summary outcome) → (writes.puts_now ≡ writes.puts) ⊎ IsPutOnce writes (shown_of summary outcome) → (writes.puts_now ≡ writes.puts) ⊎ IsAttempted (IsTextOfDemo count) writes
+summary_calls : (count : ℕ) (index sframe : List ℕ) (outcome : SframeOutcome) (summary : Summary) (writes : Writes) → HasSummary count summary index sframe outcome (shown_of summary) → (writes.puts_now ≡ writes.puts) ⊎ IsPutOnce writes (shown_of summary) → (writes.puts_now ≡ writes.puts) ⊎ IsAttempted (IsTextOfDemo count) writes
 summary_calls count index sframe outcome summary writes has (inl none) = inl none
-summary_calls count index sframe outcome summary writes has (inr once) = inr (record { text = shown_of summary outcome; told = (summary, index, sframe, outcome, has); once = once })
+summary_calls count index sframe outcome summary writes has (inr once) = inr (record { text = shown_of summary; told = (summary, index, sframe, outcome, has); once = once })
 
 -- from the writing of the summary of a number's tables to the answer for the number
-pub after_summary : (count : ℕ) (units : List CuBoundary) (names : List NameWords) (index sframe : List ℕ) (outcome : SframeOutcome) (summary : Summary) (writes : Writes) (ran : Ran) → AreTablesOf (numbered_input count) units names index sframe outcome → summary ≡ numbers_of count units names index → IsSummaryWriting summary index sframe outcome writes ran → IsDemoAnswer count writes ran
+pub after_summary : (count : ℕ) (units : List CuBoundary) (names : List NameWords) (index sframe : List ℕ) (outcome : SframeOutcome) (summary : Summary) (writes : Writes) (ran : Ran) → AreTablesOf (numbered_input count) units names index sframe outcome → summary ≡ summary_of count units names index outcome → IsSummaryWriting summary index sframe outcome writes ran → IsDemoAnswer count writes ran
 after_summary count units names index sframe outcome summary writes (Shown shown tables) are numbers (n, i, s, o, put) = (
-  shown_of summary outcome,
+  shown_of summary,
   record {
     units = units;
     names = names;
     tables = tables_named (numbered_input count) units names _ _ _ _ _ _ i s o are;
-    numbers = n ∙ numbers ∙ ap (λ x. numbers_of count units names x) (sym i);
-    report = ap (λ x. shown_of x outcome) (sym n) ∙ ap (λ x. shown_of shown x) (sym o);
+    numbers = n ∙ numbers ∙ ap (λ x. summary_of count units names x outcome) (sym i) ∙ ap (λ x. summary_of count units names tables.index.items x) (sym o);
+    report = ap shown_of (sym n);
   },
   put,
 )
 after_summary count units names index sframe outcome summary writes WriteFault are numbers put = record {
-  text = shown_of summary outcome;
+  text = shown_of summary;
   told = (summary, index, sframe, outcome, summary_with count units names index sframe outcome summary are numbers);
   put = put;
 }

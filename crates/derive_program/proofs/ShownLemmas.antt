@@ -14,6 +14,7 @@ use Rattle.gdb_index_format.specs.Objects.{AreObjectsOf, ObjectsAreOne}
 use Rattle.gdb_index_format.specs.Probe.{probe}
 use Rattle.gdb_index_format.specs.Published.{Pair, published, units_of_all, elements_in_order}
 use Rattle.gdb_index_format.specs.Version.{version_number}
+use Rattle.sframe_format.specs.declared.fault.SframeOutcome.{SframeOutcome}
 use Rattle.gdb_tables.specs.Files.{file_bytes}
 use Rattle.gdb_tables.specs.Laws.{HasOneIndex}
 use Rattle.sframe_order.specs.Laws.{SortsInOneWay}
@@ -24,31 +25,33 @@ use Rattle.demo_input.specs.Object.{numbered_holding}
 use Rattle.program_text.specs.declared.demo.Summary.{Summary}
 use Rattle.program_text.specs.Demo.{shown_of}
 use Rattle.derive_program.specs.Laws.{SummariesAreOne, SummariesHaveNumber}
-use Rattle.derive_program.specs.Shown.{elements_probed, numbers_of}
+use Rattle.derive_program.specs.Shown.{elements_probed, summary_of}
 
--- the numbers of tables, of which the lengths of the lists are given
-abbrev pub numbers_with : ℕ → ℕ → ℕ → List ℕ → Summary
-numbers_with objects units names index = record {
+-- the summary of tables, of which the lengths of the lists are given
+abbrev pub summary_by_counts : ℕ → ℕ → ℕ → List ℕ → SframeOutcome → Summary
+summary_by_counts objects units names index outcome = record {
   objects = objects;
   units = units;
   names = names;
   index = length index;
   common = elements_probed (probe index (codes "common")).answer;
+  outcome = outcome;
 }
 
-same_numbers : (count : ℕ) (us vs : List CuBoundary) (ns ms : List NameWords) (i j : List ℕ) → us ≡ vs → all_named ns ≡ all_named ms → i ≡ j → numbers_of count us ns i ≡ numbers_of count vs ms j
-same_numbers count us vs ns ms i j u n is =
+same_numbers : (count : ℕ) (us vs : List CuBoundary) (ns ms : List NameWords) (i j : List ℕ) (o p : SframeOutcome) → us ≡ vs → all_named ns ≡ all_named ms → i ≡ j → o ≡ p → summary_of count us ns i o ≡ summary_of count vs ms j p
+same_numbers count us vs ns ms i j o p u n is outcome_is =
     let names_are : length ns ≡ length ms = sym (length-map ns named) ∙ ap (λ (l : List Named). length l) n ∙ length-map ms named in
-    ap (λ (l : List CuBoundary). numbers_with count (length l) (length ns) i) u
-    ∙ ap (λ (k : ℕ). numbers_with count (length vs) k i) names_are
-    ∙ ap (λ (l : List ℕ). numbers_with count (length vs) (length ms) l) is
+    ap (λ (l : List CuBoundary). summary_by_counts count (length l) (length ns) i o) u
+    ∙ ap (λ (k : ℕ). summary_by_counts count (length vs) k i o) names_are
+    ∙ ap (λ (l : List ℕ). summary_by_counts count (length vs) (length ms) l o) is
+    ∙ ap (λ (x : SframeOutcome). summary_by_counts count (length vs) (length ms) j x) outcome_is
 
 pub one_summary : HasOneIndex → SortsInOneWay → SummariesAreOne
 one_summary indexes sorts count s t i j f g o p a b x y =
     let built = indexes (version_number V9) (parsed_of (demo_buffer count) (demo_objects count)) (demo_placements count) x.units y.units x.names y.names i j x.tables.listed y.tables.listed in
     let sorted = sorts (demo_sframe count) (demo_ranges count) g p y.tables.ordered f o x.tables.ordered in
-    let summary_is : s ≡ t = x.numbers ∙ same_numbers count x.units y.units x.names y.names i j built.0 built.1 built.2 ∙ sym y.numbers in
-    (summary_is, built.2, sorted.0, sorted.1, x.report ∙ ap (λ z. shown_of z o) summary_is ∙ ap (λ z. shown_of t z) sorted.1 ∙ sym y.report)
+    let summary_is : s ≡ t = x.numbers ∙ same_numbers count x.units y.units x.names y.names i j o p built.0 built.1 built.2 sorted.1 ∙ sym y.numbers in
+    (summary_is, built.2, sorted.0, sorted.1, x.report ∙ ap shown_of summary_is ∙ sym y.report)
 
 -- the bytes of objects as they are parsed
 bytes_parsed : (buffer : List ℕ) (spans : List Span) → file_bytes (parsed_of buffer spans) ≡ objects_of buffer spans

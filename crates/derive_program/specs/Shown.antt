@@ -31,14 +31,15 @@ elements_probed (Ok (Some elements)) = length elements
 elements_probed (Ok None) = 0
 elements_probed (Err fault) = 0
 
--- the numbers of the tables of so many objects
-abbrev pub numbers_of : ℕ → List CuBoundary → List NameWords → List ℕ → Summary
-numbers_of objects units names index = record {
+-- the summary of the tables of so many objects
+abbrev pub summary_of : ℕ → List CuBoundary → List NameWords → List ℕ → SframeOutcome → Summary
+summary_of objects units names index outcome = record {
   objects = objects;
   units = length units;
   names = length names;
   index = length index;
   common = elements_probed (probe index (codes "common")).answer;
+  outcome = outcome;
 }
 
 -- the tables of the input of a number, their summary, and its text
@@ -46,8 +47,8 @@ pub record HasSummary (count : ℕ) (summary : Summary) (index sframe : List ℕ
   pub units : List CuBoundary
   pub names : List NameWords
   pub tables : AreTablesOf (numbered_input count) units names index sframe outcome
-  pub numbers : summary ≡ numbers_of count units names index
-  pub report : text ≡ shown_of summary outcome
+  pub numbers : summary ≡ summary_of count units names index outcome
+  pub report : text ≡ shown_of summary
 
 -- The arguments are `demo` with a number, these are the tables of its input and their summary, and the text of the summary was put in one
 -- call, and written whole.

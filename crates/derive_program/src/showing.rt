@@ -2,7 +2,7 @@
 ghost use Rattle.std.specs.Prelude.{◌≡◌, ◌≤◌, codes};
 ghost use Rattle.gdb_index_format.specs.Probe.{probe};
 ghost use Rattle.derive_program.specs.Calls.{write_faults_after};
-ghost use Rattle.derive_program.specs.Shown.{elements_probed, numbers_of};
+ghost use Rattle.derive_program.specs.Shown.{elements_probed, summary_of};
 ghost use Rattle.derive_program.specs.steps.Answer.{IsDemoAnswer, IsSummaryWriting};
 
 use crate::finding::look_up;
@@ -28,16 +28,17 @@ fn common_elements(index: &[u8]) -> usize
     }
 }
 
-/// Returns the numbers of the tables of so many objects.
+/// Returns the summary of the tables of so many objects.
 fn summarize(count: usize, derived: &Derived<'_>) -> Summary
-    ensures { result ≡ numbers_of count derived.now.units.items derived.now.names.items derived.now.index.items }
+    ensures { result ≡ summary_of count derived.now.units.items derived.now.names.items derived.now.index.items derived.now.outcome }
 {
     Summary {
-        objects: count,
-        units: derived.units.len(),
-        names: derived.names.len(),
-        index: derived.index.len(),
-        common: common_elements(&derived.index),
+        objects: count as u64,
+        units: derived.units.len() as u64,
+        names: derived.names.len() as u64,
+        index: derived.index.len() as u64,
+        common: common_elements(&derived.index) as u64,
+        outcome: derived.outcome,
     }
 }
 
@@ -48,7 +49,7 @@ fn write_summary<S: Sink>(alloc: Global, summary: Summary, derived: Derived<'_>,
     ensures counted { S.faults out.new ≡ write_faults_after result (S.faults out.old) }
     ensures answer { IsSummaryWriting summary derived.entry.index.items derived.entry.sframe.items derived.entry.outcome (record { steady = S.steady out.old; faults = S.faults out.old; faults_now = S.faults out.new; written = S.written out.old; now = S.written out.new; puts = S.puts out.old; puts_now = S.puts out.new }) result }
 {
-    let Ok(text) = summary_text(alloc, &summary, derived.outcome) else {
+    let Ok(text) = summary_text(alloc, &summary) else {
         return Ran::NoMemory;
     };
     match out.put(&text) {

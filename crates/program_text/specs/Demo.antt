@@ -1,6 +1,5 @@
 -- What the arguments of `demo` ask for, and the text of its result: `demo N`. Indexes of arguments count from 0.
 use Rattle.std.specs.Prelude.{ℕ, List, [], ◌∷◌, codes, if◌then◌else◌, nat_le, Option, Some, None, Result, Ok, Err}
-use Rattle.sframe_format.specs.declared.fault.SframeOutcome.{SframeOutcome}
 use Rattle.program_text.specs.declared.demo.Summary.{Summary}
 use Rattle.program_text.specs.Lines.{text_of}
 use Rattle.program_text.specs.Number.{number_of}
@@ -31,16 +30,16 @@ after_demo [] = Err 1
 after_demo (word ∷ arguments) = with_count (demo_count word) arguments
 
 -- the lines of a summary of tables
-abbrev pub summary_lines : Summary → SframeOutcome → List (List ℕ)
-summary_lines summary outcome =
+abbrev pub summary_lines : Summary → List (List ℕ)
+summary_lines summary =
     fields (codes "objects") (summary.objects ∷ [])
     ∷ fields (codes "units") (summary.units ∷ [])
     ∷ fields (codes "names") (summary.names ∷ [])
     ∷ fields (codes "index") (summary.index ∷ [])
     ∷ fields (codes "common") (summary.common ∷ [])
-    ∷ outcome_line outcome
+    ∷ outcome_line summary.outcome
     ∷ []
 
 -- its text
-abbrev pub shown_of : Summary → SframeOutcome → List ℕ
-shown_of summary outcome = text_of (summary_lines summary outcome)
+abbrev pub shown_of : Summary → List ℕ
+shown_of summary = text_of (summary_lines summary)

@@ -23,15 +23,17 @@ pub struct DemoCommand {
 #[derive(Clone, Copy, Debug)]
 pub struct Summary {
     /// How many objects there are.
-    pub objects: usize,
+    pub objects: u64,
     /// How many compilation units (CUs) they hold.
-    pub units: usize,
+    pub units: u64,
     /// How many names the CUs publish.
-    pub names: usize,
+    pub names: u64,
     /// How many bytes the index has.
-    pub index: usize,
+    pub index: u64,
     /// How many elements the CU vector of `common` has.
-    pub common: usize,
+    pub common: u64,
+    /// What was done to the SFrame section.
+    pub outcome: SframeOutcome,
 }
 
 /// Returns the number that a word is the decimal text of, where it is at most 1000.
@@ -66,19 +68,15 @@ pub(crate) fn read_demo(words: &[String]) -> Result<DemoCommand, usize>
 }
 
 /// Returns the text of a summary: the lines `objects N`, `units N`, `names N`, `index LENGTH`, `common N`, and that of the outcome.
-pub fn summary_text(
-    alloc: Global,
-    summary: &Summary,
-    outcome: SframeOutcome,
-) -> Result<Vec<u8>, AllocError>
-    ensures { IfOk result (λ text. text.items ≡ shown_of summary.now outcome) }
+pub fn summary_text(alloc: Global, summary: &Summary) -> Result<Vec<u8>, AllocError>
+    ensures { IfOk result (λ text. text.items ≡ shown_of summary.now) }
 {
     let mut out = Vec::with_capacity(alloc, 6 * LINE)?;
-    push_fields(&mut out, "objects", &[summary.objects as u64])?;
-    push_fields(&mut out, "units", &[summary.units as u64])?;
-    push_fields(&mut out, "names", &[summary.names as u64])?;
-    push_fields(&mut out, "index", &[summary.index as u64])?;
-    push_fields(&mut out, "common", &[summary.common as u64])?;
-    push_outcome(&mut out, outcome)?;
+    push_fields(&mut out, "objects", &[summary.objects])?;
+    push_fields(&mut out, "units", &[summary.units])?;
+    push_fields(&mut out, "names", &[summary.names])?;
+    push_fields(&mut out, "index", &[summary.index])?;
+    push_fields(&mut out, "common", &[summary.common])?;
+    push_outcome(&mut out, summary.outcome)?;
     Ok(out)
 }

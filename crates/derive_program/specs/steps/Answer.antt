@@ -96,9 +96,9 @@ IsQueryAnswer query bytes writes ran = IsReplyOf query bytes writes (reply_in ra
 -- a summary was written, a prefix of it was, or memory ran out before or in the one call
 abbrev pub IsSummaryWriting : Summary → List ℕ → List ℕ → SframeOutcome → Writes → Ran → Type 0
 IsSummaryWriting summary index sframe outcome writes (Shown shown tables) =
-    (shown ≡ summary) × (tables.index.items ≡ index) × (tables.sframe.items ≡ sframe) × (tables.outcome ≡ outcome) × IsReportWritten writes (shown_of summary outcome)
-IsSummaryWriting summary index sframe outcome writes WriteFault = IsPrefixWritten writes (shown_of summary outcome)
-IsSummaryWriting summary index sframe outcome writes NoMemory = IsShortOfMemory (shown_of summary outcome) writes
+    (shown ≡ summary) × (tables.index.items ≡ index) × (tables.sframe.items ≡ sframe) × (tables.outcome ≡ outcome) × IsReportWritten writes (shown_of summary)
+IsSummaryWriting summary index sframe outcome writes WriteFault = IsPrefixWritten writes (shown_of summary)
+IsSummaryWriting summary index sframe outcome writes NoMemory = IsShortOfMemory (shown_of summary) writes
 IsSummaryWriting summary index sframe outcome writes ran = ⊥
 
 -- the text of the summary of a number's tables
