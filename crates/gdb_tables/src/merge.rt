@@ -12,7 +12,8 @@ ghost use Rattle.gdb_scan.specs.Groups.{shown, groups, add_all};
 ghost use Rattle.gdb_scan.specs.Marks.{groups_in};
 ghost use Rattle.gdb_scan.specs.Scan.{units_in_scan, names_in_scan, placed_in_scan, HasSoundNames};
 ghost use Rattle.gdb_tables.specs.Scans.{unit_counts, unit_total, units_in_scans, placed_total, words_of_groups, words_from, AreScansOf};
-ghost use Rattle.gdb_tables.specs.Merged.{AreSorted, HaveSmallWords, IsMergeOf, IsMergeCause};
+ghost use Rattle.gdb_index.specs.Scan.{HaveSmallWords};
+ghost use Rattle.gdb_tables.specs.Merged.{AreSorted, IsMergeOf, IsMergeCause};
 
 use crate::counts::count_marks;
 use crate::names::publish_marks;
