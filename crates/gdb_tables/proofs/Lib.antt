@@ -18,3 +18,4 @@ pub mod NamesInOrder
 pub mod NoUnits
 pub mod OneIndex
 pub mod ListedUnits
+pub mod Tallying
