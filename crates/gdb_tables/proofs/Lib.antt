@@ -19,3 +19,4 @@ pub mod NoUnits
 pub mod OneIndex
 pub mod ListedUnits
 pub mod Tallying
+pub mod NamedUnits

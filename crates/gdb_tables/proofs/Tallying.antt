@@ -1,5 +1,5 @@
 -- Counts of elements, name by name.
-use Rattle.std.proofs.Common.{◌≡◌, ◌≢◌, ℕ, zero, suc, ◌+◌, ◌<◌, ◌≤◌, Bool, true, false, cond, not, List, [], ◌∷◌, ◌++◌, length, get_or, drop, map, slice_get, Some, is_some, Option, Bor, refl, sym, ap, ◌∙◌, subst, arith, true≢false}
+use Rattle.std.proofs.Common.{◌≡◌, ◌≢◌, ℕ, zero, suc, ◌+◌, ◌<◌, ◌≤◌, Bool, true, false, cond, not, List, [], ◌∷◌, ◌++◌, length, get_or, drop, map, slice_get, Some, is_some, Option, Bor, refl, sym, ap, ◌∙◌, arith, true≢false}
 use Rattle.std.specs.List.{AllByRecursion, position_or_len}
 use Rattle.std.specs.Str.{bytes_eq}
 use Rattle.std.specs.Map.{keys_of, values_of as values_in, lookup}
@@ -9,7 +9,7 @@ use Rattle.gdb_scan.specs.declared.mark.Mark.{Mark}
 use Rattle.gdb_scan.specs.declared.mark.NameMarks.{NameMarks}
 use Rattle.gdb_scan.specs.Buckets.{of_bucket}
 use Rattle.gdb_scan.specs.Groups.{groups, add_all, add_list}
-use Rattle.gdb_scan.specs.Marks.{group_of, groups_in}
+use Rattle.gdb_scan.specs.Marks.{groups_in}
 use Rattle.gdb_scan.specs.Scan.{ObjectScan, IsObjectName, HasSoundNames, units_in_scan, names_in_scan}
 use Rattle.gdb_scan.proofs.Grouping.{Name, add_all-append}
 use Rattle.gdb_tables.specs.Scans.{mark_word, words_at, words_of_groups, words_from}

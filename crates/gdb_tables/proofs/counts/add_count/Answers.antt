@@ -1,4 +1,4 @@
-use Rattle.std.proofs.Common.{◌≡◌, ap, sym, ◌∙◌, arith}
+use Rattle.std.proofs.Common.{ap, sym, ◌∙◌, arith}
 use Rattle.gdb_scan.proofs.Grouping.{index_from_some}
 use Rattle.gdb_tables.specs.steps.Counted.{counts_shown}
 use Rattle.gdb_tables.proofs.Tallying.{counted-insert, counted-set}

@@ -1,4 +1,4 @@
-use Rattle.std.proofs.Common.{◌≡◌, [], ap, sym, subst, arith}
+use Rattle.std.proofs.Common.{ap, sym, subst}
 use Rattle.gdb_tables.specs.steps.Counted.{counts_shown}
 use Rattle.gdb_tables.proofs.Tallying.{Counted, counted_none, counted_more, counted_all}
 use Rattle.gdb_tables.proofs.counts.count_marks.Goals as goal

@@ -1,4 +1,4 @@
-use Rattle.std.proofs.Common.{◌≡◌, ap, sym, ◌∙◌}
+use Rattle.std.proofs.Common.{sym}
 use Rattle.gdb_scan.proofs.Grouping.{index_from_some}
 use Rattle.gdb_tables.proofs.Tallying.{count_found, count_absent}
 use Rattle.gdb_tables.proofs.counts.count_of.Goals as goal

@@ -80,7 +80,7 @@ returns-in-Ok-checked_index_size-clause-size c =
     let m = c.in-Ok-merge_gdb_index_scans.merged in
     let all = gathered files ps ss m done c.in-Ok-merge_gdb_index_scans.ensures.merged c.in-Ok-merge_gdb_index_scans.ensures.objects in
     let some : 0 < length c.units.result.now = grind (arith, common_steps) in
-    sized_some _ files ps ss m c.counts-counts.result c.in-Ok-checked_index_size.size done all (omega (arith, some, ap length c.units.ensures.units)) c.counts-counts.ensures.counts (c.in-Ok-checked_index_size.ensures {u = tt})
+    sized_some _ files ps ss m c.counts-counts.result c.in-Ok-checked_index_size.size done all c.units.ensures.well_formed (omega (arith, some, ap length c.units.ensures.units)) c.counts-counts.ensures.counts (c.in-Ok-checked_index_size.ensures {u = tt})
 
 pub returns-in-Ok-checked_index_size-clause-indexable : goal.returns-in-Ok-checked_index_size-clause-indexable
 returns-in-Ok-checked_index_size-clause-indexable c = indexable _ (file_bytes (all_parsed c.args.files.now)) c.args.placements.now c.in-Ok-checked_index_size.size (Some c.in-Ok-merge_gdb_index_scans.merged) (returns-in-Ok-checked_index_size-clause-size c) (c.in-Ok-checked_index_size.ensures {u = tt}).below
