@@ -26,7 +26,7 @@ use Rattle.derivation.proofs.Refusing.{unsized, unrelocated}
 use Rattle.derivation.specs.Valid.{HasSpans, HasObjects, HasPlacements, HasIndex, HasRelocations}
 use Rattle.derivation.specs.Cause.{of_gdb_error, IsUnsized, IsUnrelocated, IsUnordered, HasCause, in_placements, in_index, in_relocations, in_sframe}
 
-bytes_again : (buffer : List ℕ) (list : List Span) → file_bytes (parsed_of buffer list) ≡ objects_of buffer list
+pub bytes_again : (buffer : List ℕ) (list : List Span) → file_bytes (parsed_of buffer list) ≡ objects_of buffer list
 bytes_again buffer [] = refl
 bytes_again buffer (span ∷ list) = ap (λ (rest : List (List ℕ)). spans.span_bytes buffer span ∷ rest) (bytes_again buffer list)
 

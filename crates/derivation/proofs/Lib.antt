@@ -3,4 +3,5 @@ mod Parsing
 pub mod Phases
 mod Refusing
 mod Composing
+pub mod Browsing
 mod Answering

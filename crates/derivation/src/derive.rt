@@ -4,6 +4,7 @@ ghost use Rattle.std.specs.Prelude.{◌≡◌, ◌⊎◌, MatchResult, ◌<◌, 
 ghost use Rattle.sframe_format.specs.Sorted.{SortOf};
 ghost use Rattle.gdb_index_format.specs.Version.{version_number};
 ghost use Rattle.gdb_tables.specs.Index.{IsIndexOf};
+ghost use Rattle.index_browser.specs.Checked.{IsChecked};
 ghost use Rattle.derivation.specs.Cause.{HasCause};
 ghost use Rattle.derivation.specs.Input.{input_of, input_given};
 ghost use Rattle.derivation.specs.Objects.{parsed_of};
@@ -14,7 +15,7 @@ ghost use Rattle.derivation.specs.steps.Derived.{HasTablesOf, IsRefusedBy};
 
 use crate::DeriveError;
 use crate::input::Input;
-use crate::laws::{refused_for_one_cause, valid_has_no_cause};
+use crate::laws::{indexes_are_checked, refused_for_one_cause, valid_has_no_cause};
 use crate::object::parse_objects;
 use crate::order::order_sframe;
 use elf_format::{Architecture, Span};
@@ -104,10 +105,12 @@ pub fn derive_tables<'a>(
 
     // the tables
     ensures index { IfOk result (λ d. IsIndexOf (version_number version) (parsed_of buffer.now objects.now) placements.now d.units.items d.names.items d.index.items) }
+    ensures checked { IfOk result (λ d. IsChecked d.index.items) }
     ensures sframe { IfOk result (λ d. SortOf sframe.now ranges.now d.sframe.items d.outcome) }
 {
     refused_for_one_cause();
     valid_has_no_cause();
+    indexes_are_checked();
     let input = Input {
         machine: expected,
         buffer,

@@ -13,4 +13,6 @@ mod order;
 pub use derive::{Derived, derive_tables};
 pub use error::DeriveError;
 pub use gdb_tables::{built_indexes_are_one, index_has_few_steps};
-pub use laws::{inside_is_no_bad_span, refused_for_one_cause, valid_has_no_cause};
+pub use laws::{
+    indexes_are_checked, inside_is_no_bad_span, refused_for_one_cause, valid_has_no_cause,
+};

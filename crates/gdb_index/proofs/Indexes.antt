@@ -170,7 +170,7 @@ holds_names v b s xs known small good some i =
           record { name = ap (λ n. u32_at b (n + 8 * k)) table_is ∙ read.0; vector = ap (λ n. u32_at b (n + 8 * k + 4)) table_is ∙ read.1 };
       names = λ k d l.
           ap (string_at b) (ap (λ n. n + name_offset ns k) pool_at_is ∙ omega (arith, sum_of_names (take k ns)))
-          ∙ string_at-stands b (pool + vectors_len ns + sum_by (λ n. length (name_bytes n)) (take k ns)) (get_or ns k d).name (good.names k d l).no_zero (StandsAt-item name_bytes b _ ns k d l p.names);
+          ∙ string_at-stands b (pool + vectors_len ns + sum_by (λ n. length (name_bytes n)) (take k ns)) (get_or ns k d).name (good.names k d l).named.no_zero (StandsAt-item name_bytes b _ ns k d l p.names);
       vectors = λ k d l.
           ap (vector_at b) (ap (λ n. n + vector_offset ns k) pool_at_is ∙ omega (arith, sum_of_vectors (take k ns)))
           ∙ vector_at-stands b (pool + sum_by (λ n. length (vector_bytes n)) (take k ns)) (get_or ns k d).words

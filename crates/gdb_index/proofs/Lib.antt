@@ -20,3 +20,6 @@ pub mod Headline
 pub mod Indexes
 pub mod Rooms
 pub mod LawLemmas
+pub mod PoolOrders
+pub mod PartsIndexed
+pub mod PartsPublished

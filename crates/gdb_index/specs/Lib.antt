@@ -5,6 +5,7 @@ pub mod Table
 pub mod Filled
 pub mod Layout
 pub mod Answers
+pub mod FromParts
 pub mod Vector
 pub mod Parts
 pub mod Laws

@@ -20,12 +20,20 @@ unit_number word = word % 2 ^ 28
 
 -- A name that an index of so many units can hold: no zero byte ends it early, and the elements of its CU vector
 -- ascend and have CU indexes below the number of units.
-pub record IsIndexName (count : ℕ) (n : Named) : Type 0 where
+pub record IsNameFor (count : ℕ) (n : Named) : Type 0 where
   pub no_zero : All (λ c. c ≢ 0) n.name
   pub some : n.words ≢ []
   pub ascending : IsNonDecreasing n.words
-  pub fit : All (λ w. w < 2 ^ 32) n.words
   pub units : All (λ w. unit_number w < count) n.words
+
+-- the elements of each CU vector fit their four bytes, as each `u32` does
+abbrev pub HaveSmallWords : List Named → Type 0
+HaveSmallWords ns = All (λ n. All (λ w. w < 2 ^ 32) n.words) ns
+
+-- such a name, with elements that fit their four bytes
+pub record IsIndexName (count : ℕ) (n : Named) : Type 0 where
+  pub named : IsNameFor count n
+  pub fit : All (λ w. w < 2 ^ 32) n.words
 
 -- What holds of every scan result.
 pub record IsWellFormedScan (s : Scan) : Type 0 where

@@ -4,3 +4,4 @@ pub mod FreeSlots
 pub mod Passed
 pub mod FilledBytes
 pub mod Lookup
+pub mod Split

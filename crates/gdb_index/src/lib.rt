@@ -10,6 +10,7 @@ mod hash;
 mod laws;
 mod passed;
 mod pool;
+mod pool_order;
 mod reader;
 mod scan_result;
 mod size;

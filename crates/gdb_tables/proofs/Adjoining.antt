@@ -103,6 +103,26 @@ unit_within c d file us q = either (ltb 1 (length us)) (unwrap_or (section_unit 
   either true n le = le
   either false n le = omega arith
 
+-- it is one of them, where the object has any
+pub unit_below : (c : Class) (d : Bool) (file : List ℕ) (us : List CuBoundary) (q : ℕ) → 0 < length us → unit_of_section c d file us q < length us
+unfolding section_unit
+unit_below c d file us q some = either (ltb 1 (length us)) (unwrap_or (section_unit c d file us q) 0) (by_relocations (unit_relocations c file)) where
+  held_below : (offset : ℕ) (o : Option ℕ) → unit_holding us offset ≡ o → unwrap_or o 0 < length us
+  held_below offset None is = some
+  held_below offset (Some k) is = (position-Some (holds_offset offset) us k no_unit is).0
+
+  found_at : (o : Option Crel) → unwrap_or (option_and_then (λ (r : Crel). unit_holding us r.offset) o) 0 < length us
+  found_at None = some
+  found_at (Some r) = held_below r.offset (unit_holding us r.offset) refl
+
+  by_relocations : (rs : Result (List Crel) ElfError) → unwrap_or (assigned_unit c d file us q rs) 0 < length us
+  by_relocations (Err e) = some
+  by_relocations (Ok rs) = found_at (find (assigns c d file us q) rs)
+
+  either : (b : Bool) (n : ℕ) → n < length us → cond b n 0 < length us
+  either true n le = le
+  either false n le = some
+
 -- ---- entries of an object
 
 module _ (c : Class) (file : Parsed) (first : ℕ) (us : List CuBoundary) (ps : List Placement) where

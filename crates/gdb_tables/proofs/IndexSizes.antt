@@ -1,7 +1,7 @@
 -- The size of the index of all objects.
 use Rattle.std.proofs.Common.{◌≡◌, ℕ, ◌+◌, ◌*◌, ◌^◌, ◌<◌, ◌≤◌, true, cond, eqb, List, [], ◌∷◌, length, map, Option, Some, None, refl, sym, ap, subst, ◌∙◌, arith}
 use Rattle.std.proofs.lemmas.Bool.{cond-true, eq-eqb}
-use Rattle.gdb_index.specs.Scan.{Scan}
+use Rattle.gdb_index.specs.Scan.{Scan, IsWellFormedScan}
 use Rattle.gdb_index.specs.Size as index
 use Rattle.gdb_index.specs.declared.size.IndexCounts.{IndexCounts}
 use Rattle.gdb_index.specs.declared.size.IndexTooLarge.{IndexTooLarge as TooLarge}
@@ -116,14 +116,14 @@ counts_small files ps ss m counts done all few is =
 size_of : (version : ℕ) (files : List (List ℕ)) (ps : List Placement) (os : List Object) (m : Scan) (counts : IndexCounts) (size : ℕ) → Gathered files ps os m → counts ≡ index.scan_counts m → index.IsIndexSize version counts size → IsSize version (counts_of os (length (placed files (unit_lists os) ps))) size
 size_of version files ps os m counts size all is sized = subst (λ n. IsSize version n size) (ap index.format_counts is ∙ counts_are files ps os m all) sized
 
-pub sized_some : (version : ℕ) (files : List (List ℕ)) (ps : List Placement) (ss : List (Option ObjectScan)) (m : Scan) (counts : IndexCounts) (size : ℕ) (done : ScansObjects files ps ss) → Gathered files ps done.objects m → 0 < length m.units → counts ≡ index.scan_counts m → index.IsCountable version counts size → SizesIndex version files ps size (Some m)
-sized_some version files ps ss m counts size done all some is sized = record {
+pub sized_some : (version : ℕ) (files : List (List ℕ)) (ps : List Placement) (ss : List (Option ObjectScan)) (m : Scan) (counts : IndexCounts) (size : ℕ) (done : ScansObjects files ps ss) → Gathered files ps done.objects m → IsWellFormedScan m → 0 < length m.units → counts ≡ index.scan_counts m → index.IsCountable version counts size → SizesIndex version files ps size (Some m)
+sized_some version files ps ss m counts size done all good some is sized = record {
   objects = done.objects;
   held = done.held;
   plain = done.plain;
   few = all.few;
   size_is = size_of version files ps done.objects m counts size all is sized.size;
-  scanned = record { some = omega (arith, some, ap length all.units); own = record { units = all.units; counts = all.counts; placed = all.placed }; names = all.names };
+  scanned = record { some = omega (arith, some, ap length all.units); well_formed = good; own = record { units = all.units; counts = all.counts; placed = all.placed }; names = all.names };
 }
 
 pub sized_large : (version : ℕ) (files : List (List ℕ)) (ps : List Placement) (ss : List (Option ObjectScan)) (m : Scan) (counts : IndexCounts) (e : TooLarge) (done : ScansObjects files ps ss) → Gathered files ps done.objects m → counts ≡ index.scan_counts m → index.IsTooLarge version counts e → IsSizeCause version files ps (IndexTooLarge e.0)

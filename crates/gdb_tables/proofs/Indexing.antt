@@ -1,7 +1,7 @@
 -- The index that is written is that of the objects.
 use Rattle.std.proofs.Common.{◌≡◌, ◌≢◌, ◌<◌, ℕ, Bool, false, Some, List, [], ◌∷◌, length, take, drop, get_or, ◌++◌, subst, ap, sym, ◌∙◌, arith, inl, inr, IsPermutation, IsSortedByKey}
 use Rattle.std.specs.Cmp.Lexicographic.{slice_cmp}
-use Rattle.std.specs.List.{Contains, IsDistinct}
+use Rattle.std.specs.List.{All, Contains, IsDistinct}
 use Rattle.std.specs.Ordering.{nat_cmp}
 use Rattle.std.specs.Str.{bytes_eq}
 use Rattle.std.proofs.Math.ListN.{drop_of_length-le}
@@ -30,6 +30,7 @@ use Rattle.gdb_tables.specs.Addresses.{addresses}
 use Rattle.gdb_tables.specs.Files.{file_bytes}
 use Rattle.gdb_tables.specs.Sized.{SizesIndex, IsScanOfAll}
 use Rattle.gdb_tables.specs.Index.{IsLaidOut, IsIndexOf}
+use Rattle.gdb_tables.proofs.NamedUnits.{units_named}
 
 pub answers_again : (ns : List Named) (b index : List ℕ) → b ≡ index → ((ps : List Pair) → AreNamesOf ps ns → AnswersAll b ps) → (ps : List Pair) → AreNamesOf ps ns → AnswersAll index ps
 answers_again ns b index same answers ps names = subst (λ (bytes : List ℕ). AnswersAll bytes ps) same (answers ps names)
@@ -86,9 +87,9 @@ distinct_again ns ms same distinct i j d below beyond equal =
       ]
     ]
 
-laid_out : (version : ℕ) (os : List Object) (count : ℕ) (entries : List AddressEntry) (scan : Scan) (units : List CuBoundary) (index : List ℕ) → units ≡ units_of_all os → 0 < length (units_of_all os) → IsScanOfAll os count scan → IsLayoutOf version scan entries index → IsLaidOut version os count entries units index
-laid_out version os count entries scan [] index are some of_all is = absurd (omega (arith, some, ap length are))
-laid_out version os count entries scan (u ∷ us) index are some of_all is = (scan, of_all, is)
+laid_out : (version : ℕ) (os : List Object) (count : ℕ) (entries : List AddressEntry) (scan : Scan) (units : List CuBoundary) (index : List ℕ) → units ≡ units_of_all os → 0 < length (units_of_all os) → IsScanOfAll os count scan → All (λ a. a.unit < length scan.units) entries → IsLayoutOf version scan entries index → IsLaidOut version os count entries units index
+laid_out version os count entries scan [] index are some of_all within is = absurd (omega (arith, some, ap length are))
+laid_out version os count entries scan (u ∷ us) index are some of_all within is = (scan, of_all, within, is)
 
 -- the index of a scan of all objects
 pub indexed : (version : ℕ) (parsed : List Parsed) (placements : List Placement) (size : ℕ) (scan : Scan) (entries : List AddressEntry) (units : List CuBoundary) (names : List NameWords) (index : List ℕ)
@@ -106,6 +107,8 @@ pub indexed : (version : ℕ) (parsed : List Parsed) (placements : List Placemen
 indexed version parsed placements size scan entries units names index sized addressed len is listed steps answers are same ascending =
     let os = sized.objects in
     let scanned : IsScanOfAll os (length (placed (file_bytes parsed) (unit_lists os) placements)) scan = sized.scanned in
+    let entries_are : entries ≡ addresses parsed (unit_lists os) placements = addressed (unit_lists os) (units_of_objects (file_bytes parsed) os sized.held) in
+    let within = units_named parsed (unit_lists os) placements scan.units entries scanned.own.units entries_are in
     record {
       objects = os;
       held = sized.held;
@@ -119,5 +122,5 @@ indexed version parsed placements size scan entries units names index sized addr
         ascending = ascending;
       };
       size = subst (λ n. IsSize version (counts_of os (length (placed (file_bytes parsed) (unit_lists os) placements))) n) (sym len) sized.size_is;
-      laid_out = subst (λ (list : List AddressEntry). IsLaidOut version os (length (placed (file_bytes parsed) (unit_lists os) placements)) list units index) (addressed (unit_lists os) (units_of_objects (file_bytes parsed) os sized.held)) (laid_out version os (length (placed (file_bytes parsed) (unit_lists os) placements)) entries scan units index (are ∙ scanned.own.units) scanned.some scanned is);
+      laid_out = subst (λ (list : List AddressEntry). IsLaidOut version os (length (placed (file_bytes parsed) (unit_lists os) placements)) list units index) entries_are (laid_out version os (length (placed (file_bytes parsed) (unit_lists os) placements)) entries scan units index (are ∙ scanned.own.units) scanned.some scanned within is);
     }

@@ -18,3 +18,5 @@ pub mod NamesInOrder
 pub mod NoUnits
 pub mod OneIndex
 pub mod ListedUnits
+pub mod Tallying
+pub mod NamedUnits

@@ -8,7 +8,7 @@ use Rattle.gdb_index_format.specs.Hash.{element_of}
 use Rattle.gdb_tables.proofs.Listing.{lists_of_scans}
 use Rattle.std.proofs.lemmas.List.Sums.{sum_by-cons}
 use Rattle.std.proofs.lemmas.List.Sorted.{All-permutation}
-use Rattle.gdb_index.specs.Scan.{IsIndexName, IsWellFormedScan, unit_number}
+use Rattle.gdb_index.specs.Scan.{IsIndexName, IsWellFormedScan, unit_number, HaveSmallWords}
 use Rattle.gdb_index_format.specs.declared.unit.CuBoundary.{CuBoundary}
 use Rattle.gdb_index_format.specs.Named.{Named}
 use Rattle.gdb_index_format.specs.Published.{end_to_end, firsts, by_bucket}
@@ -20,7 +20,7 @@ use Rattle.gdb_scan.specs.declared.mark.Mark.{Mark}
 use Rattle.gdb_scan.specs.declared.mark.NameMarks.{NameMarks}
 use Rattle.gdb_scan.specs.Groups.{names_of, values_of, groups, add_all, add_list}
 use Rattle.gdb_scan.specs.Marks.{group_of, groups_in}
-use Rattle.gdb_tables.specs.Merged.{AreSorted, HaveSmallWords}
+use Rattle.gdb_tables.specs.Merged.{AreSorted}
 use Rattle.gdb_scan.specs.Scan.{ObjectScan, IsObjectName, HasSoundNames, units_in_scan, names_in_scan, placed_in_scan}
 use Rattle.gdb_tables.specs.Scans.{unit_counts, unit_total, units_in_scans, placed_total, mark_word, words_at, words_of_groups, words_from}
 use Rattle.gdb_scan.proofs.Grouping.{Name, groups-add_all, add_all-append, add_all-is_list, tabled}
@@ -221,11 +221,13 @@ index_names limit ps [] (n ∷ ns) h clean some fit small = absurd h
 index_names limit ps (m ∷ fs) [] h clean some fit small = absurd h
 index_names limit ps (m ∷ fs) (n ∷ ns) h clean some fit small = (
   record {
-    no_zero = subst (All (λ (c : ℕ). c ≢ 0)) (sym h.0) clean.0;
-    some = not_empty (values_of m ps) n.words some.0 h.1;
-    ascending = h.2;
+    named = record {
+      no_zero = subst (All (λ (c : ℕ). c ≢ 0)) (sym h.0) clean.0;
+      some = not_empty (values_of m ps) n.words some.0 h.1;
+      ascending = h.2;
+      units = All-permutation (λ (w : ℕ). unit_number w < limit) (values_of m ps) n.words h.1 (All-from_each (λ (w : ℕ). unit_number w < limit) (values_of m ps) (each-values (λ (w : ℕ). unit_number w < limit) m ps fit));
+    };
     fit = small.0;
-    units = All-permutation (λ (w : ℕ). unit_number w < limit) (values_of m ps) n.words h.1 (All-from_each (λ (w : ℕ). unit_number w < limit) (values_of m ps) (each-values (λ (w : ℕ). unit_number w < limit) m ps fit));
   },
   index_names limit ps fs ns h.3 clean.1 some.1 fit small.1,
 )

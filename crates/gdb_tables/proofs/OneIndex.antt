@@ -44,7 +44,7 @@ one_laid version os count entries [] [] b d same len left right = left ∙ sym r
 one_laid version os count entries [] (v ∷ vs) b d same len left right = cc
 one_laid version os count entries (u ∷ us) [] b d same len left right = cc
 one_laid version os count entries (u ∷ us) (v ∷ vs) b d same len left right =
-    indexes_are_one_lem version left.0 entries b d left.2 (subst (λ (s : Scan). IsLayoutOf version s entries d) (same_scan os count right.0 left.0 right.1 left.1) right.2) len
+    indexes_are_one_lem version left.0 entries b d left.3 (subst (λ (s : Scan). IsLayoutOf version s entries d) (same_scan os count right.0 left.0 right.1 left.1) right.3) len
 
 pub one_index : (version : ℕ) (parsed : List Parsed) (placements : List Placement) (us vs : List CuBoundary) (ns ms : List NameWords) (b d : List ℕ) → IsIndexOf version parsed placements us ns b → IsIndexOf version parsed placements vs ms d → (us ≡ vs) × (all_named ns ≡ all_named ms) × (b ≡ d)
 one_index version parsed placements us vs ns ms b d left right =

@@ -1,6 +1,7 @@
 -- The index of objects: its units, its names and its bytes; and why objects have none.
-use Rattle.std.specs.Prelude.{◌≡◌, ℕ, List, [], ◌∷◌, length, None, IsSortedByKey}
+use Rattle.std.specs.Prelude.{◌≡◌, ℕ, ◌<◌, List, [], ◌∷◌, length, None, IsSortedByKey}
 use Rattle.std.specs.Cmp.Lexicographic.{slice_cmp}
+use Rattle.std.specs.List.{All}
 use Rattle.std.specs.Ordering.{nat_cmp}
 use Rattle.elf_view.specs.Parsed.{Parsed}
 use Rattle.gdb_index_format.specs.declared.unit.CuBoundary.{CuBoundary}
@@ -27,11 +28,11 @@ pub record ListsNames (ps : List Pair) (list : List NameWords) : Type 0 where
   pub ascending : IsSortedByKey (λ n. n.name.now) (slice_cmp nat_cmp) list
 
 -- The parts of an index stand one after another: header, CU list, no types CU list, these address entries, the symbol
--- hash table, in version 9 a shortcut table of zeros, the CU vectors and the names in pool order, and zeros at the end.
--- Without a unit the index has no bytes.
+-- hash table, in version 9 a shortcut table of zeros, the CU vectors and the names in pool order, and zeros at the end. Each
+-- address entry names one of the units. Without a unit the index has no bytes.
 abbrev pub IsLaidOut : ℕ → List Object → ℕ → List AddressEntry → List CuBoundary → List ℕ → Type 0
 IsLaidOut version os count entries [] index = index ≡ []
-IsLaidOut version os count entries (u ∷ us) index = (scan : Scan) × IsScanOfAll os count scan × IsLayoutOf version scan entries index
+IsLaidOut version os count entries (u ∷ us) index = (scan : Scan) × IsScanOfAll os count scan × All (λ a. a.unit < length scan.units) entries × IsLayoutOf version scan entries index
 
 -- The index of files, whose sections have these placements. It lists the units that the objects hold, in input order. For
 -- every byte string its probe finds the CU vector of the name where some unit publishes it, and else Absent, within few

@@ -1,6 +1,5 @@
 -- The merge of all scans.
 use Rattle.std.specs.Prelude.{◌≡◌, ℕ, ◌^◌, ◌<◌, ◌≤◌, List, [], ◌∷◌}
-use Rattle.std.specs.List.{All}
 use Rattle.std.specs.List.Sorted.{IsPermutation, IsNonDecreasing}
 use Rattle.gdb_index.specs.Scan.{Scan}
 use Rattle.gdb_index_format.specs.Named.{Named, ListsPublished}
@@ -17,9 +16,6 @@ AreSorted [] [] = Unit {0}
 AreSorted [] (n ∷ ns) = ⊥
 AreSorted (g ∷ gs) [] = ⊥
 AreSorted (g ∷ gs) (n ∷ ns) = (n.name ≡ g.0) × IsPermutation g.1 n.words × IsNonDecreasing n.words × AreSorted gs ns
-
-abbrev pub HaveSmallWords : List Named → Type 0
-HaveSmallWords ns = All (λ n. All (λ w. w < 2 ^ 32) n.words) ns
 
 -- The units of all scans, one after another, their names and CU vectors, and their counts.
 pub record IsMergeOf (ss : List (Option ObjectScan)) (merged : Scan) : Type 0 where

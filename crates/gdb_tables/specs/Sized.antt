@@ -1,6 +1,6 @@
 -- The size of the index of some objects, and why there is none.
 use Rattle.std.specs.Prelude.{◌≡◌, ℕ, ◌^◌, ◌<◌, ◌≤◌, List, [], length, Option, Some, None}
-use Rattle.gdb_index.specs.Scan.{Scan}
+use Rattle.gdb_index.specs.Scan.{Scan, IsWellFormedScan}
 use Rattle.gdb_index_format.specs.declared.placement.Placement.{Placement}
 use Rattle.gdb_index_format.specs.Named.{ListsPublished}
 use Rattle.gdb_index_format.specs.Published.{Object, units_of_all, published, unit_lists}
@@ -15,6 +15,7 @@ use Rattle.gdb_tables.specs.Files.{ArePlain, FirstBadObject}
 -- The units of all objects, their names and CU vectors, and their counts.
 pub record IsScanOfAll (os : List Object) (count : ℕ) (scan : Scan) : Type 0 where
   pub some : 0 < length (units_of_all os)
+  pub well_formed : IsWellFormedScan scan
   pub own : IsScanOfUnits (unit_lists os) count scan
   pub names : ListsPublished (published os) scan.names
 

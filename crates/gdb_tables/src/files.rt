@@ -54,11 +54,11 @@ fn scan_object<'a>(
     }
 }
 
-/// The scans of all objects, in input order. It is refused for the first object that is not scanned, as
+/// Returns the scans of all objects, in input order. It is refused for the first object that is not scanned, as
 /// `scan_one_object` refuses it; where each can be scanned, for out of memory alone.
 ///
-/// Each file has fewer than 2^39 bytes. The placements ascend by object and section, name objects and sections
-/// that are there, and their ends fit 64 bits.
+/// Requires files of fewer than 2^39 bytes each, and placements that ascend by object and section, name objects and
+/// sections that exist, and whose ends fit 64 bits.
 pub fn scan_objects<'a>(
     alloc: Global,
     files: &[AnyFile<'a>],

@@ -12,7 +12,8 @@ ghost use Rattle.gdb_scan.specs.Groups.{shown, groups, add_all};
 ghost use Rattle.gdb_scan.specs.Marks.{groups_in};
 ghost use Rattle.gdb_scan.specs.Scan.{units_in_scan, names_in_scan, placed_in_scan, HasSoundNames};
 ghost use Rattle.gdb_tables.specs.Scans.{unit_counts, unit_total, units_in_scans, placed_total, words_of_groups, words_from, AreScansOf};
-ghost use Rattle.gdb_tables.specs.Merged.{AreSorted, HaveSmallWords, IsMergeOf, IsMergeCause};
+ghost use Rattle.gdb_index.specs.Scan.{HaveSmallWords};
+ghost use Rattle.gdb_tables.specs.Merged.{AreSorted, IsMergeOf, IsMergeCause};
 
 use crate::counts::count_marks;
 use crate::names::publish_marks;
@@ -22,7 +23,7 @@ use gdb_scan::{GdbError, NameMarks, PerObjectScan};
 use indexmap::IndexMap;
 use std::alloc::{AllocError, Global};
 
-/// The units of an object, none where it has no scan.
+/// Returns the units of an object, none where it has no scan.
 fn units_of<'s>(scan: &'s Option<PerObjectScan<'_>>) -> &'s [CuBoundary]
     ensures units { result.now ≡ units_in_scan scan.now }
     ensures counted { 4 * length result.now ≤ total_length result.now }
@@ -35,7 +36,7 @@ fn units_of<'s>(scan: &'s Option<PerObjectScan<'_>>) -> &'s [CuBoundary]
     }
 }
 
-/// The names of a bucket that an object publishes, none where it has no scan.
+/// Returns the names of a bucket that an object publishes, none where it has no scan.
 pub(crate) fn names_of<'s, 'a>(
     scan: &'s Option<PerObjectScan<'a>>,
     bucket: u32,
@@ -49,7 +50,7 @@ pub(crate) fn names_of<'s, 'a>(
     }
 }
 
-/// How many sections of an object are placed, none where it has no scan.
+/// Returns how many sections of an object are placed, 0 where it has no scan.
 fn placed_of(scan: &Option<PerObjectScan<'_>>) -> usize
     ensures placed { result ≡ placed_in_scan scan.now }
     ensures small { result < 2 ^ 39 }
@@ -60,7 +61,7 @@ fn placed_of(scan: &Option<PerObjectScan<'_>>) -> usize
     }
 }
 
-/// How many units all objects have.
+/// Returns how many units all objects have.
 fn count_units(scans: &[Option<PerObjectScan<'_>>]) -> u64
     requires { length scans.now < 2 ^ 24 }
     ensures total { result ≡ unit_total scans.now }
@@ -73,7 +74,7 @@ fn count_units(scans: &[Option<PerObjectScan<'_>>]) -> u64
     count
 }
 
-/// How many sections of all objects are placed.
+/// Returns how many sections of all objects are placed.
 fn count_placed(scans: &[Option<PerObjectScan<'_>>]) -> usize
     requires { length scans.now < 2 ^ 24 }
     ensures { result ≡ placed_total scans.now }
@@ -85,7 +86,7 @@ fn count_placed(scans: &[Option<PerObjectScan<'_>>]) -> usize
     count
 }
 
-/// How many units each object has.
+/// Returns how many units each object has, in input order.
 fn list_unit_counts(
     alloc: Global,
     scans: &[Option<PerObjectScan<'_>>],
@@ -117,7 +118,7 @@ fn add_units(units: &mut Vec<CuBoundary>, at: u64, list: &[CuBoundary]) -> Resul
     Ok(end)
 }
 
-/// The units of all objects, one after another: so many.
+/// Returns the units of all objects, one after another. `count` is their number.
 fn placed_units(
     alloc: Global,
     scans: &[Option<PerObjectScan<'_>>],
@@ -153,7 +154,7 @@ fn publish_scan<'a>(
     Ok(())
 }
 
-/// The elements of each name of a bucket, in input order.
+/// Returns the elements of each name of a bucket, in input order.
 fn gather_words<'a>(
     alloc: Global,
     scans: &[Option<PerObjectScan<'a>>],
@@ -172,7 +173,7 @@ fn gather_words<'a>(
     Ok(names)
 }
 
-/// A name with its CU vector in ascending order.
+/// Returns a name with its CU vector in ascending order.
 fn sorted_name<'a>(name: &'a [u8], mut words: Vec<u32>) -> Result<NameWords<'a>, AllocError>
     ensures name { IfOk result (λ n. n.name.now ≡ name.now) }
     ensures same { IfOk result (λ n. IsPermutation words.items n.words.items) }
@@ -183,7 +184,7 @@ fn sorted_name<'a>(name: &'a [u8], mut words: Vec<u32>) -> Result<NameWords<'a>,
     Ok(NameWords { name, words })
 }
 
-/// All names, each with its CU vector in ascending order.
+/// Returns all names, each with its CU vector in ascending order.
 fn sorted_names<'a>(
     alloc: Global,
     names: IndexMap<&'a [u8], Vec<u32>>,
@@ -202,7 +203,7 @@ fn sorted_names<'a>(
 /// The number of buckets of names.
 const BUCKETS: u32 = 32;
 
-/// All names in pool order: in ascending order of bucket, and within one bucket in the order of first publication. Each
+/// Returns all names in pool order: in ascending order of bucket, and within one bucket in the order of first publication. Each
 /// bucket has a map of its own.
 fn pool_names<'a>(
     alloc: Global,
@@ -224,12 +225,13 @@ fn pool_names<'a>(
 /// The most units that the elements of a CU vector can number.
 const MAX_UNITS: u64 = 1 << 24;
 
-/// The merge of the scans of all objects, one scan per object, in input order: all units, each with an offset that
-/// sums the lengths of all units before it; the names in pool order, which is ascending order of bucket and within one
-/// bucket the order of first publication, each with its CU vector in ascending order; and how many sections are placed. An object without a scan has no unit.
+/// Merges the scans of all objects, one scan per object, in input order. Returns all units, each with an offset that sums
+/// the lengths of all units before it; the names in pool order, which is ascending order of bucket and within one bucket
+/// the order of first publication, each with its CU vector in ascending order; and how many sections are placed. An
+/// object without a scan has no unit.
 ///
 /// `TooManyUnits`, with the number of all units, comes exactly where there are more than 16,777,216 of them;
-/// `NoMemory` may come at any scans. There are fewer than 2^24 scans.
+/// `NoMemory` may come at any scans. Requires fewer than 2^24 scans.
 pub fn merge_gdb_index_scans<'a>(
     alloc: Global,
     scans: Vec<Option<PerObjectScan<'a>>>,

@@ -9,7 +9,7 @@ ghost use Rattle.gdb_tables.specs.Misplaced.{follows, is_there, is_well_placed, 
 use elf_view::AnyFile;
 use gdb_index_format::Placement;
 
-/// Whether a placement follows the one before it, by object and then by section.
+/// Reports whether a placement follows the one before it, by object and then by section.
 fn follows(before: Option<Placement>, placement: &Placement) -> bool
     ensures { result ≡ Rattle.gdb_tables.specs.Misplaced.follows before placement.now }
 {
@@ -20,7 +20,7 @@ fn follows(before: Option<Placement>, placement: &Placement) -> bool
     }
 }
 
-/// Whether the section of a placement is there.
+/// Reports whether the section of a placement exists.
 fn is_there(files: &[AnyFile<'_>], placement: &Placement) -> bool
     ensures { result ≡ Rattle.gdb_tables.specs.Misplaced.is_there (slice_get (file_bytes (all_parsed files.now)) placement.now.object) placement.now.section }
 {
@@ -30,7 +30,7 @@ fn is_there(files: &[AnyFile<'_>], placement: &Placement) -> bool
     }
 }
 
-/// Whether a placement may follow the one before it.
+/// Reports whether a placement may follow the one before it.
 fn is_well_placed(files: &[AnyFile<'_>], before: Option<Placement>, placement: &Placement) -> bool
     ensures { result ≡ Rattle.gdb_tables.specs.Misplaced.is_well_placed (file_bytes (all_parsed files.now)) (before, placement.now) }
 {
@@ -39,8 +39,8 @@ fn is_well_placed(files: &[AnyFile<'_>], before: Option<Placement>, placement: &
         && placement.address.checked_add(placement.size).is_some()
 }
 
-/// The first placement, by its index from 0, that is not as an index asks: it is not above the one before it, by
-/// object and then by section, or its object or its section is not there, or its end does not fit 64 bits. None
+/// Returns the first placement, by its index from 0, that is not as an index requires: it is not above the one before it,
+/// by object and then by section, or its object or its section does not exist, or its end does not fit 64 bits. None
 /// where all are.
 pub fn first_misplaced(files: &[AnyFile<'_>], placements: &[Placement]) -> Option<usize>
     ensures first { result ≡ misplaced (file_bytes (all_parsed files.now)) placements.now }

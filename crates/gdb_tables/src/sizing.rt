@@ -18,16 +18,16 @@ use gdb_index_format::{IndexVersion, Placement};
 use gdb_scan::GdbError;
 use std::alloc::Global;
 
-/// How many bytes the index of all objects has in a version, with the scan that it is written from: 0 and none exactly where
-/// there is no unit.
+/// Returns how many bytes the index of all objects has in a version, with the scan that it is written from: 0 and none
+/// exactly where there is no unit.
 ///
-/// The refusals, in this order: those of `scan_one_object` for the first object that is malformed; `TooManyUnits`
+/// The errors, in this order: those of `scan_one_object` for the first object that is malformed; `TooManyUnits`
 /// exactly where all objects together have more than 16,777,216 units; `IndexTooLarge`, with the size, exactly
 /// where it is above 4,294,967,295. `NoMemory` may come at any objects, and alone at those whose index has a size
 /// of at most that.
 ///
-/// There are fewer than 2^24 files, each of fewer than 2^39 bytes. The placements ascend by object and section,
-/// name objects and sections that are there, and their ends fit 64 bits.
+/// Requires fewer than 2^24 files, each of fewer than 2^39 bytes, and placements that ascend by object and section, name
+/// objects and sections that exist, and whose ends fit 64 bits.
 pub fn compute_gdb_index_size<'a>(
     alloc: Global,
     files: &[AnyFile<'a>],

@@ -104,8 +104,8 @@ module _ (b : List ℕ) (s : Scan) (xs : List AddressEntry) (used : List ℕ) (l
         elements = (get_or s.names k d).words;
         named = l.names k d below;
         vector = l.vectors k d below;
-        some = n.some;
-        well_formed = λ i e inside. subst (λ units. IsElement units (get_or (get_or s.names k d).words i e)) (sym (units_counted b s xs used l)) (element_is (length s.units) (get_or (get_or s.names k d).words i e) good.units (n.fit i e inside) (n.units i e inside));
+        some = n.named.some;
+        well_formed = λ i e inside. subst (λ units. IsElement units (get_or (get_or s.names k d).words i e)) (sym (units_counted b s xs used l)) (element_is (length s.units) (get_or (get_or s.names k d).words i e) good.units (n.fit i e inside) (n.named.units i e inside));
         found_here = ends_there k d below;
       }
 

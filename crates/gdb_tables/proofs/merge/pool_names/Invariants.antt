@@ -2,7 +2,8 @@ use Rattle.std.specs.List.{flat_map, range_with_len}
 use Rattle.gdb_index_format.specs.Named.{all_named}
 use Rattle.gdb_scan.specs.Buckets.{of_bucket}
 use Rattle.gdb_scan.specs.Groups.{groups}
-use Rattle.gdb_tables.specs.Merged.{AreSorted, HaveSmallWords}
+use Rattle.gdb_index.specs.Scan.{HaveSmallWords}
+use Rattle.gdb_tables.specs.Merged.{AreSorted}
 use Rattle.gdb_tables.specs.Scans.{words_from}
 use Rattle.gdb_tables.proofs.merge.pool_names.Given as goal
 

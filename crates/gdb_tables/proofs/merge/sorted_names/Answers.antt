@@ -6,7 +6,8 @@ use Rattle.std.proofs.lemmas.Grind.{common_steps}
 use Rattle.std.proofs.lemmas.Map.Iter.{rest_more}
 use Rattle.gdb_index_format.specs.Named.{Named, all_named, named as named_of}
 use Rattle.gdb_scan.specs.Groups.{shown}
-use Rattle.gdb_tables.specs.Merged.{AreSorted, HaveSmallWords}
+use Rattle.gdb_index.specs.Scan.{HaveSmallWords}
+use Rattle.gdb_tables.specs.Merged.{AreSorted}
 use Rattle.gdb_tables.proofs.Merging.{sorted_push}
 use Rattle.gdb_tables.proofs.merge.sorted_names.Goals as goal
 

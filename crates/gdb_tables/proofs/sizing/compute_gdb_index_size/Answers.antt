@@ -69,7 +69,7 @@ checked_index_size-requires c =
     let m = c.in-Ok-merge_gdb_index_scans.merged in
     let all = gathered files ps ss m done c.in-Ok-merge_gdb_index_scans.ensures.merged c.in-Ok-merge_gdb_index_scans.ensures.objects in
     let few : length files < 2 ^ 24 = omega (arith, c.requires.few, length-map c.args.files.now parsed, length-map (all_parsed c.args.files.now) (λ (f : Parsed). f.bytes)) in
-    counts_small files ps ss m c.counts-counts.result done all few c.counts-counts.ensures
+    counts_small files ps ss m c.counts-counts.result done all few c.counts-counts.ensures.counts
 
 pub returns-in-Ok-checked_index_size-clause-size : goal.returns-in-Ok-checked_index_size-clause-size
 returns-in-Ok-checked_index_size-clause-size c =
@@ -80,7 +80,7 @@ returns-in-Ok-checked_index_size-clause-size c =
     let m = c.in-Ok-merge_gdb_index_scans.merged in
     let all = gathered files ps ss m done c.in-Ok-merge_gdb_index_scans.ensures.merged c.in-Ok-merge_gdb_index_scans.ensures.objects in
     let some : 0 < length c.units.result.now = grind (arith, common_steps) in
-    sized_some _ files ps ss m c.counts-counts.result c.in-Ok-checked_index_size.size done all (omega (arith, some, ap length c.units.ensures.units)) c.counts-counts.ensures (c.in-Ok-checked_index_size.ensures {u = tt})
+    sized_some _ files ps ss m c.counts-counts.result c.in-Ok-checked_index_size.size done all c.units.ensures.well_formed (omega (arith, some, ap length c.units.ensures.units)) c.counts-counts.ensures.counts (c.in-Ok-checked_index_size.ensures {u = tt})
 
 pub returns-in-Ok-checked_index_size-clause-indexable : goal.returns-in-Ok-checked_index_size-clause-indexable
 returns-in-Ok-checked_index_size-clause-indexable c = indexable _ (file_bytes (all_parsed c.args.files.now)) c.args.placements.now c.in-Ok-checked_index_size.size (Some c.in-Ok-merge_gdb_index_scans.merged) (returns-in-Ok-checked_index_size-clause-size c) (c.in-Ok-checked_index_size.ensures {u = tt}).below
@@ -89,7 +89,7 @@ pub returns-in-Ok-checked_index_size-clause-exact : goal.returns-in-Ok-checked_i
 returns-in-Ok-checked_index_size-clause-exact c = λ e cause some. some (no_size_cause _ (file_bytes (all_parsed c.args.files.now)) c.args.placements.now e (returns-in-Ok-checked_index_size-clause-indexable c) cause)
 
 pub returns-in-Ok-checked_index_size-clause-room : goal.returns-in-Ok-checked_index_size-clause-room
-returns-in-Ok-checked_index_size-clause-room c = subst (λ n. IsIndexSize (version_number c.args.version) n c.in-Ok-checked_index_size.size) c.counts-counts.ensures (c.in-Ok-checked_index_size.ensures {u = tt}).size
+returns-in-Ok-checked_index_size-clause-room c = subst (λ n. IsIndexSize (version_number c.args.version) n c.in-Ok-checked_index_size.size) c.counts-counts.ensures.counts (c.in-Ok-checked_index_size.ensures {u = tt}).size
 
 pub returns-clause-cause : goal.returns-clause-cause
 returns-clause-cause c =
@@ -99,7 +99,7 @@ returns-clause-cause c =
     let done = c.in-Ok.ensures.scans in
     let m = c.in-Ok-merge_gdb_index_scans.merged in
     let all = gathered files ps ss m done c.in-Ok-merge_gdb_index_scans.ensures.merged c.in-Ok-merge_gdb_index_scans.ensures.objects in
-    sized_large _ files ps ss m c.counts-counts.result c.in-Err-checked_index_size.field-0 done all c.counts-counts.ensures (c.in-Err-checked_index_size.ensures {u = tt})
+    sized_large _ files ps ss m c.counts-counts.result c.in-Err-checked_index_size.field-0 done all c.counts-counts.ensures.counts (c.in-Err-checked_index_size.ensures {u = tt})
 
 pub returns-clause-exact : goal.returns-clause-exact
 returns-clause-exact c = λ e cause some. told_size _ (file_bytes (all_parsed c.args.files.now)) c.args.placements.now (IndexTooLarge c.in-Err-checked_index_size.field-0.0) e (returns-clause-cause c) cause some
