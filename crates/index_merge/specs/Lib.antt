@@ -1,0 +1,4 @@
+pub mod Joined
+pub mod Merged
+pub mod Cause
+pub mod steps
