@@ -5,7 +5,9 @@
 
 mod addresses;
 mod error;
+mod merge;
 mod names;
 mod units;
 
 pub use error::MergeError;
+pub use merge::merge_indexes;

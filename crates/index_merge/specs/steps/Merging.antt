@@ -11,7 +11,12 @@ use Rattle.gdb_index_format.specs.declared.unit.CuBoundary.{CuBoundary}
 use Rattle.gdb_index_format.specs.Named.{Named}
 use Rattle.index_browser.specs.NameList.{IsNameListOf}
 use Rattle.index_browser.specs.Areas.{unit_count}
+use Rattle.gdb_index.specs.Answers.{words_under}
+use Rattle.gdb_index.specs.FromParts.{scan_of_parts}
+use Rattle.gdb_index.specs.Scan.{Scan, IsWellFormedScan}
+use Rattle.gdb_index.specs.Size.{scan_counts}
 use Rattle.index_merge.specs.Joined.{moved_element}
+use Rattle.index_merge.specs.Merged.{units_of_both, addresses_of_both}
 
 -- a moved element whose CU index still has 24 bits
 abbrev pub HasRoom : ℕ → ℕ → Type 0
@@ -73,3 +78,13 @@ pub record AreMergedNames (first second : List ℕ) (names : List Named) : Type 
   pub second_listed : IsNameListOf second ms
   pub few : length ns + length ms < 2 ^ 30
   pub ordered : AreOrdered (merged (unit_count first) ns ms) names
+
+-- what the merged index is written from: the units of both indexes, their names, and the number of their address entries
+pub record IsScanOfBoth (first second : List ℕ) (offset : ℕ) (s : Scan) : Type 0 where
+  pub names : List Named
+  pub merged_names : AreMergedNames first second names
+  pub units : s.units ≡ units_of_both first second offset
+  pub placed : s.placed ≡ length (addresses_of_both first second)
+  pub words : (name : List ℕ) → words_under name s.names ≡ words_under name names
+  pub size : scan_counts s ≡ scan_counts (scan_of_parts (units_of_both first second offset) names (length (addresses_of_both first second)))
+  pub well_formed : IsWellFormedScan s
