@@ -1,17 +1,17 @@
 -- The names of a merged list are names of the merged index.
-use Rattle.std.proofs.Common.{◌≡◌, ◌≢◌, ℕ, ◌+◌, ◌/◌, ◌%◌, ◌^◌, ◌<◌, ◌≤◌, List, [], ◌∷◌, ◌++◌, length, map, get_or, refl, sym, ap, subst, ◌∙◌, arith}
+use Rattle.std.proofs.Common.{◌≡◌, ◌≢◌, ℕ, ◌+◌, ◌/◌, ◌%◌, ◌^◌, ◌<◌, ◌≤◌, List, [], ◌∷◌, ◌++◌, length, map, get_or, refl, sym, ap, subst, arith}
 use Rattle.std.specs.List.{All}
-use Rattle.std.proofs.lemmas.List.{length-append, length-map, get_or-map}
+use Rattle.std.proofs.lemmas.List.{length-map, get_or-map}
 use Rattle.std.proofs.lemmas.List.Elements.{All-nil, All-cons, All-head, All-tail, All-append}
 use Rattle.std.proofs.lemmas.List.Sorted.{All-permutation, length_permutation}
 use Rattle.gdb_index_format.specs.Named.{Named}
 use Rattle.gdb_index.specs.Scan.{IsNameFor, unit_number}
 use Rattle.index_browser.specs.Areas.{unit_count}
-use Rattle.index_browser.specs.Checked.{IsElement, IsFoundName, IsWellFormedIndex}
+use Rattle.index_browser.specs.Checked.{IsWellFormedIndex}
 use Rattle.index_browser.specs.NameList.{IsNameListOf}
 use Rattle.index_merge.specs.Joined.{moved_element}
 use Rattle.index_merge.specs.steps.Merging.{moved_name, joined_name, merged_from, merged, IsOrdered, AreOrdered}
-use Rattle.index_merge.proofs.Orders.{order_of, Rises, in_each}
+use Rattle.index_merge.proofs.Orders.{order_of, in_each}
 
 -- a name that an index of so many units can hold, whose elements may have any order
 pub record IsGood (count : ℕ) (n : Named) : Type 0 where

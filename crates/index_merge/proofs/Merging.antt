@@ -1,14 +1,11 @@
 -- Two lists of names, merged step by step.
-use Rattle.std.proofs.Common.{◌≡◌, ℕ, ◌+◌, ◌-◌, ◌%◌, ◌^◌, ◌<◌, ◌≤◌, List, [], ◌∷◌, ◌++◌, length, take, drop, get_or, map, Some, Ok, refl, sym, ap, subst, ◌∙◌, arith, append_assoc}
-use Rattle.std.specs.List.{All}
-use Rattle.std.proofs.lemmas.List.{append-nil, drop-drop, drop_all, length-take-le, length-drop, take_rest}
+use Rattle.std.proofs.Common.{◌≡◌, ℕ, ◌+◌, ◌-◌, ◌%◌, ◌^◌, ◌<◌, ◌≤◌, List, [], ◌∷◌, ◌++◌, length, take, drop, get_or, sym, ap, subst, ◌∙◌, arith, append_assoc}
+use Rattle.std.proofs.lemmas.List.{drop-drop, length-drop, take_rest}
 use Rattle.gdb_index_format.specs.Named.{Named}
-use Rattle.gdb_index_format.specs.Probe.{probe}
 use Rattle.index_browser.specs.declared.names.NameEntry.{NameEntry}
 use Rattle.index_browser.specs.Areas.{unit_count}
-use Rattle.index_browser.specs.Checked.{IsElement, IsWellFormedIndex}
+use Rattle.index_browser.specs.Checked.{IsWellFormedIndex}
 use Rattle.index_browser.specs.NameList.{all_listed, IsNameListOf}
-use Rattle.index_merge.specs.Merged.{units_in_all}
 use Rattle.index_merge.specs.steps.Merging.{HasRoom, merged, IsOrdered, AreOrdered, IsTaken}
 use Rattle.index_merge.proofs.Taking.{HaveRoom}
 

@@ -1,6 +1,6 @@
 -- The merged index: what it is written from, its size, and what it lists and answers.
-use Rattle.std.proofs.Common.{◌≡◌, ◌≢◌, ℕ, ◌+◌, ◌-◌, ◌*◌, ◌/◌, ◌^◌, ◌<◌, ◌≤◌, Bool, true, false, cond, eqb, ltb, List, [], ◌∷◌, ◌++◌, length, map, get_or, Option, Some, None, Result, Ok, refl, sym, ap, subst, ◌∙◌, arith, inl, inr}
-use Rattle.std.specs.Prelude.{position, find}
+use Rattle.std.proofs.Common.{◌≡◌, ◌≢◌, ℕ, ◌+◌, ◌^◌, ◌<◌, ◌≤◌, Bool, true, false, cond, eqb, List, [], ◌∷◌, ◌++◌, length, map, get_or, Option, Some, None, Result, Ok, refl, sym, ap, subst, ◌∙◌, arith, inl}
+use Rattle.std.specs.Prelude.{find}
 use Rattle.std.specs.Option.{option_map}
 use Rattle.std.specs.Str.{bytes_eq}
 use Rattle.std.specs.List.{All}
@@ -17,20 +17,19 @@ use Rattle.gdb_index_format.specs.Named.{Named}
 use Rattle.gdb_index_format.specs.Probe.{probe, probe_from, step_at, slot_count, index_fault, unless_fault}
 use Rattle.gdb_index_format.specs.Size.{Counts, size_with, IsSize}
 use Rattle.gdb_index_format.specs.Units.{index_units}
-use Rattle.gdb_index_format.specs.Version.{version_number, header_len, shortcut_len}
+use Rattle.gdb_index_format.specs.Version.{version_number, header_len}
 use Rattle.gdb_index.specs.Answers.{AnswersFor, is_sought, words_under}
 use Rattle.gdb_index.specs.FromParts.{AreIndexParts, scan_of_parts}
 use Rattle.gdb_index.specs.Layout.{IsLayoutOf}
-use Rattle.gdb_index.specs.Pool.{names_len}
-use Rattle.gdb_index.specs.Scan.{Scan, IsNameFor, unit_number, word_count}
+use Rattle.gdb_index.specs.Scan.{Scan, IsNameFor, unit_number}
 use Rattle.gdb_index.specs.Size.{format_counts, scan_counts, IsIndexSize}
 use Rattle.gdb_index.specs.declared.size.IndexCounts.{IndexCounts}
-use Rattle.index_browser.specs.Areas.{index_addresses, unit_count, AreAddresses, ListsAddresses}
-use Rattle.index_browser.specs.Checked.{IsChecked, IsWellFormedIndex}
+use Rattle.index_browser.specs.Areas.{index_addresses, unit_count, AreAddresses}
+use Rattle.index_browser.specs.Checked.{IsWellFormedIndex}
 use Rattle.index_browser.specs.Laws.{LayoutIsChecked, LayoutListsAddresses}
 use Rattle.index_browser.specs.NameList.{elements_of}
-use Rattle.index_merge.specs.Joined.{moved_element, elements_of_both, IsJoinedVector, IsJoinedAnswer}
-use Rattle.index_merge.specs.Merged.{moved_unit, moved_address, units_of_both, addresses_of_both, units_in_all, names_beside, merged_counts, IsMergedSize, IsMerged}
+use Rattle.index_merge.specs.Joined.{moved_element, elements_of_both, IsJoinedAnswer}
+use Rattle.index_merge.specs.Merged.{moved_unit, moved_address, units_of_both, addresses_of_both, units_in_all, merged_counts, IsMergedSize, IsMerged}
 use Rattle.index_merge.specs.steps.Merging.{merged, IsOrdered, AreOrdered, AreMergedNames, IsScanOfBoth}
 use Rattle.index_merge.proofs.Orders.{order_of, Below, Rises, rises_of, rises_merged, distinct_of}
 use Rattle.index_merge.proofs.Held.{held, held_merged, held_is}
@@ -195,3 +194,54 @@ module _ (first second : List ℕ) (offset : ℕ) (s : Scan) (w : IsWellFormedIn
 
   pub merged_answers : (index : List ℕ) → AnswersFor index s.names → (q : List ℕ) → IsJoinedAnswer first second q (probe index q).answer
   merged_answers index answers q = subst (λ (a : Result (Option (List ℕ)) BadIndex). IsJoinedAnswer first second q a) (sym (answers.answer q ∙ ap (λ o. Ok o) (b.words q))) (answered first second b.names w v few m q)
+
+-- ---- an index of no bytes
+
+no_units_in : (b : List ℕ) → b ≡ [] → index_units b ≡ []
+unfolding index_units le header_len
+no_units_in b none = ap index_units none
+
+no_addresses_in : (b : List ℕ) → b ≡ [] → index_addresses b ≡ []
+unfolding index_addresses le header_len
+no_addresses_in b none = ap index_addresses none
+
+no_names_in : (b q : List ℕ) → b ≡ [] → (probe b q).answer ≡ Ok None
+unfolding probe
+no_names_in b q none =
+    ap (λ t. (cond t (record { answer = Ok None; steps = 0 }) (unless_fault (index_fault b) (probe_from (step_at b q) (slot_count b) 0))).answer)
+    (lt-ltb (length b) (header_len (u32_at b 0)) (omega (arith, ap length none, least_header (u32_at b 0))))
+
+no_item : {X : Type 0} (xs : List X) → length xs ≡ 0 → xs ≡ []
+no_item [] none = refl
+no_item (x ∷ xs) none = absurd (omega (arith, none))
+
+module _ (first second : List ℕ) (offset : ℕ) (s : Scan) (w : IsWellFormedIndex first) (v : IsWellFormedIndex second) (few : units_in_all first second ≤ 2 ^ 24) (b : IsScanOfBoth first second offset s) where
+  -- without a unit the merged index has no bytes
+  pub merged_none : (version : IndexVersion) (size : ℕ) (index : List ℕ) → size ≡ 0 → IsIndexSize (version_number version) (scan_counts s) size → index ≡ [] → IsMerged version first second offset index
+  merged_none version size index zero_size is empty =
+      let zero_units : units_in_all first second ≡ 0 = sym (units_length first second offset) ∙ ap (λ (us : List CuBoundary). length us) (sym b.units) ∙ no_unit (version_number version) (format_counts (scan_counts s)) size zero_size is in
+      let none : b.names ≡ [] = no_name b.names (units_in_all first second) zero_units (named_for first second b.names w v few b.merged_names) in
+      record {
+        size = subst (IsMergedSize (version_number version) first second) (zero_size ∙ ap length (sym empty)) (merged_size first second offset s w v few b (version_number version) size is);
+        version_is = λ some. absurd (some empty);
+        units = no_units_in index empty ∙ sym (no_item (units_of_both first second offset) (units_length first second offset ∙ zero_units));
+        addresses = no_addresses_in index empty ∙ sym (no_entry (addresses_of_both first second) (units_in_all first second) zero_units (addresses_exist first second w v));
+        answers = λ q. subst (λ (a : Result (Option (List ℕ)) BadIndex). IsJoinedAnswer first second q a) (ap (λ ns. Ok (words_under q ns)) none ∙ sym (no_names_in index q empty)) (answered first second b.names w v few b.merged_names q);
+        checked = inl empty;
+      }
+
+  pub merged_some : (version : IndexVersion) (size : ℕ) (addresses : List AddressEntry) (index : List ℕ) → size < 2 ^ 32 → IsIndexSize (version_number version) (scan_counts s) size → length index ≡ size → addresses ≡ addresses_of_both first second → AreAddresses addresses
+      → IsLayoutOf (version_number version) s addresses index → index_units index ≡ s.units → AnswersFor index s.names → LayoutIsChecked → LayoutListsAddresses → IsMerged version first second offset index
+  merged_some version size addresses index small is len are fit layout units answers checks lists =
+      let short : length index < 2 ^ 32 = omega (arith, len, small) in
+      let list = lists version s addresses index short b.well_formed fit layout in
+      let count : units_in_all first second ≡ length s.units = sym (ap (λ (us : List CuBoundary). length us) b.units ∙ units_length first second offset) in
+      record {
+        size = subst (IsMergedSize (version_number version) first second) (sym len) (merged_size first second offset s w v few b (version_number version) size is);
+        version_is = λ some. list.version_is;
+        units = units ∙ b.units;
+        addresses = list.entries_are ∙ are;
+        answers = merged_answers first second offset s w v few b index answers;
+        checked = checks version s addresses index short b.well_formed
+            (subst (λ n. All (λ (a : AddressEntry). a.unit < n) addresses) count (subst (All (λ (a : AddressEntry). a.unit < units_in_all first second)) (sym are) (addresses_exist first second w v))) layout;
+      }

@@ -1,20 +1,18 @@
 -- How many names, elements and bytes a merged list of names has.
-use Rattle.std.proofs.Common.{◌≡◌, ◌≢◌, ℕ, ◌+◌, ◌^◌, ◌<◌, ◌≤◌, Bool, true, false, cond, not, List, [], ◌∷◌, ◌++◌, length, map, refl, sym, ap, subst, ◌∙◌, arith}
+use Rattle.std.proofs.Common.{◌≡◌, ℕ, ◌+◌, ◌≤◌, Bool, true, false, cond, not, List, [], ◌∷◌, length, map, refl, sym, ap, subst, ◌∙◌, arith}
 use Rattle.std.specs.Prelude.{◌||◌}
-use Rattle.std.specs.declared.cmp.Ordering.TheVariants.{Less, Equal, Greater}
-use Rattle.std.specs.Str.{bytes_eq}
-use Rattle.std.specs.List.{sum_by, list_any, filter}
+use Rattle.std.specs.List.{sum_by, list_any}
 use Rattle.std.proofs.lemmas.List.{length-append, length-map}
 use Rattle.std.proofs.lemmas.List.Sums.{sum_by-cons}
 use Rattle.std.proofs.lemmas.List.Sorted.{length_permutation}
 use Rattle.std.proofs.lemmas.Slice.Eq.{bytes_eq-Decides}
 use Rattle.gdb_index_format.specs.Named.{Named}
 use Rattle.gdb_index.specs.Answers.{is_sought}
-use Rattle.gdb_index.specs.Pool.{name_len, names_len}
+use Rattle.gdb_index.specs.Pool.{names_len}
 use Rattle.gdb_index.specs.Scan.{word_count}
 use Rattle.index_merge.specs.Joined.{moved_element}
 use Rattle.index_merge.specs.Merged.{names_beside}
-use Rattle.index_merge.specs.steps.Merging.{moved_name, joined_name, merged_from, merged, IsOrdered, AreOrdered}
+use Rattle.index_merge.specs.steps.Merging.{moved_name, joined_name, merged_from, merged, AreOrdered}
 use Rattle.index_merge.proofs.Orders.{order_of, Below, Rises, not_itself, turned, same_names, below_more, in_each, in_its}
 use Rattle.index_merge.proofs.Held.{differs}
 

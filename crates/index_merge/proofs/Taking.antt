@@ -1,5 +1,5 @@
 -- The least name of two ascending lists, and what is left of them.
-use Rattle.std.proofs.Common.{◌≡◌, ℕ, ◌+◌, ◌-◌, ◌<◌, ◌≤◌, List, [], ◌∷◌, length, take, drop, get_or, map, refl, sym, ap, subst, ◌∙◌, arith}
+use Rattle.std.proofs.Common.{◌≡◌, ℕ, ◌<◌, List, [], ◌∷◌, length, drop, get_or, refl, sym, ap, subst, ◌∙◌, arith}
 use Rattle.std.specs.declared.cmp.Ordering.{Ordering}
 use Rattle.std.specs.declared.cmp.Ordering.TheVariants.{Less, Equal, Greater}
 use Rattle.std.specs.Cmp.Lexicographic.{slice_cmp}
@@ -10,7 +10,7 @@ use Rattle.gdb_index_format.specs.Named.{Named}
 use Rattle.index_browser.specs.declared.names.NameEntry.{NameEntry}
 use Rattle.index_browser.specs.NameList.{listed_name, all_listed}
 use Rattle.index_merge.specs.Joined.{moved_element}
-use Rattle.index_merge.specs.steps.Merging.{HasRoom, moved_name, joined_name, by_order, merged_from, merged, IsOrdered, IsTaken}
+use Rattle.index_merge.specs.steps.Merging.{HasRoom, moved_name, joined_name, by_order, merged, IsOrdered, IsTaken}
 use Rattle.index_merge.proofs.Pushing.{map_same, element_stays}
 
 -- a list as a pattern takes it apart

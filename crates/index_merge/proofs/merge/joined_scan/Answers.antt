@@ -1,4 +1,3 @@
-use Rattle.std.proofs.Common.{◌∙◌}
 use Rattle.gdb_index_format.specs.Named.{all_named}
 use Rattle.index_merge.proofs.Results.{parts_of}
 use Rattle.index_merge.proofs.merge.joined_scan.Goals as goal

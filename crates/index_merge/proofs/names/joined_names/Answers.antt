@@ -1,4 +1,4 @@
-use Rattle.std.proofs.Common.{List, subst, sym, ap, ◌∙◌, ◌+◌, ◌^◌, ◌≤◌, arith}
+use Rattle.std.proofs.Common.{List, subst, sym, ◌+◌, ◌^◌, ◌≤◌, arith}
 use Rattle.index_browser.specs.declared.names.NameEntry.{NameEntry}
 use Rattle.index_browser.specs.Areas.{unit_count}
 use Rattle.index_browser.specs.NameList.{all_listed}
