@@ -6,3 +6,4 @@ pub mod Held
 pub mod Sizes
 pub mod Goods
 pub mod Results
+pub mod Causes

@@ -5,9 +5,15 @@
 
 mod addresses;
 mod error;
+mod examples;
+mod laws;
 mod merge;
 mod names;
 mod units;
 
 pub use error::MergeError;
+pub use examples::main_twice;
+pub use laws::{
+    joined_vectors_are_one, merge_causes_are_one, mergeable_has_no_cause, merged_sizes_are_one,
+};
 pub use merge::merge_indexes;

@@ -1,18 +1,21 @@
 //! Merges two indexes (GDB manual, "Index Section Format").
 
-ghost use Rattle.std.specs.Prelude.{◌≡◌, ◌≤◌, ◌^◌, None, length, position, OnOk, IfOk, IfErr};
+ghost use Rattle.std.specs.Prelude.{◌≡◌, ◌≢◌, ◌≤◌, ◌^◌, None, length, position, OnOk, IfOk, IfErr};
 ghost use Rattle.gdb_index_format.specs.Units.{index_units};
 ghost use Rattle.gdb_index_format.specs.Version.{version_number};
 ghost use Rattle.gdb_index.specs.Answers.{AnswersFor};
 ghost use Rattle.gdb_index.specs.Layout.{IsLayoutOf};
 ghost use Rattle.gdb_index.specs.Size.{IsIndexSize, scan_counts};
 ghost use Rattle.index_browser.specs.Areas.{unit_count};
-ghost use Rattle.index_merge.specs.Cause.{IsMergeCause};
+ghost use Rattle.index_merge.specs.Cause.{IsMergeCause, IsUnmergedFor, IsMergeMemory};
+ghost use Rattle.index_merge.specs.declared.error.MergeError.{MergeError as MergeError_spec};
+ghost use Rattle.index_merge.specs.declared.error.MergeError.TheVariants.{NoMemory};
 ghost use Rattle.index_merge.specs.Merged.{units_in_all, addresses_of_both, is_too_far, IsMerged, IsMergeable};
 ghost use Rattle.index_merge.specs.steps.Merging.{IsScanOfBoth};
 
 use crate::addresses::joined_addresses;
 use crate::error::MergeError;
+use crate::laws::merged_sizes_are_one;
 use crate::names::joined_names;
 use crate::units::{count_units, first_too_far, joined_units};
 use gdb_index::{GdbIndexScanResult, IndexTooLarge, checked_index_size, write_gdb_index};
@@ -129,7 +132,10 @@ pub fn merge_indexes<'a>(
     ensures merged { IfOk result (λ v. IsMerged version first.now second.now offset v.items) }
     ensures mergeable { OnOk result (IsMergeable (version_number version) first.now second.now offset) }
     ensures cause { IfErr result (IsMergeCause (version_number version) first.now second.now offset) }
+    ensures exact { (e : MergeError_spec) → IsMergeCause (version_number version) first.now second.now offset e → e ≢ NoMemory → IsUnmergedFor result e }
+    ensures complete { IsMergeable (version_number version) first.now second.now offset → IfErr result IsMergeMemory }
 {
+    merged_sizes_are_one();
     if let Some(unit) = first_too_far(second, offset) {
         return Err(MergeError::OffsetTooLarge(unit));
     }
