@@ -1,0 +1,5 @@
+pub mod Joined
+pub mod Merged
+pub mod Cause
+pub mod Laws
+pub mod steps
