@@ -14,11 +14,13 @@ use std::io::Read;
 use std::marker::Model;
 
 /// How many bytes are read at a time.
-const PIECE: usize = 16 * 1024;
+pub const PIECE: usize = 16 * 1024;
 
-/// Reads what a reader has left onto the end of `out`, and counts the bytes that it takes. After an error `out` has some of them.
+/// Reads what a reader has left onto the end of `out`, piece by piece, and counts the bytes that it takes. After an error `out` has some of
+/// them.
 fn append_rest<R: Read>(
     reader: &mut R,
+    piece: &mut [u8; PIECE],
     out: &mut Vec<u8>,
     limit: usize,
     taken: &mut u64,
@@ -32,10 +34,9 @@ fn append_rest<R: Read>(
     ensures too_long { IsErrOf result FileFault.TooLong → IsLeftTooLong (R.remaining reader.old) limit taken.old taken.new }
     ensures later { taken.old ≤ taken.new }
 {
-    let mut piece = [0u8; PIECE];
     let mut got = 0usize;
     'pieces: loop {
-        let count = match reader.read(&mut piece) {
+        let count = match reader.read(piece) {
             Ok(count) => count,
             Err(_) => return Err(FileFault::Failed),
         };
@@ -54,9 +55,10 @@ fn append_rest<R: Read>(
 /// Reads a reader to its end onto the end of `out`, where it has at most `limit` bytes left, and counts in `taken` the bytes that it takes.
 ///
 /// `Failed`: a read failed. `TooLong`: the reader had more than `limit` bytes left. After each error, `NoMemory` too, `out` is unchanged.
-/// The count stands still at 2^64 - 1.
+/// The count stands still at 2^64 - 1. `piece` is room for the bytes that are read at a time: what it held does not matter, and is lost.
 pub fn read_to_limit<R: Read>(
     reader: &mut R,
+    piece: &mut [u8; PIECE],
     out: &mut Vec<u8>,
     limit: usize,
     taken: &mut u64,
@@ -67,7 +69,7 @@ pub fn read_to_limit<R: Read>(
     ensures later { taken.old ≤ taken.new }
 {
     let start = out.len();
-    match append_rest(reader, out, limit, taken) {
+    match append_rest(reader, piece, out, limit, taken) {
         Ok(()) => Ok(()),
         Err(fault) => {
             out.truncate(start);
@@ -83,6 +85,7 @@ pub struct DiskFiles<'r, R: std::rt::Files> {
     reads: Trail,
     faults: u64,
     taken: u64,
+    piece: [u8; PIECE],
 }
 
 impl<'r, R: std::rt::Files> Model for DiskFiles<'r, R> {
@@ -103,6 +106,7 @@ impl<'r, R: std::rt::Files> DiskFiles<'r, R> {
             reads: Trail::new(),
             faults: 0,
             taken: 0,
+            piece: [0; PIECE],
         }
     }
 }
@@ -126,7 +130,7 @@ impl<'r, R: std::rt::Files> Files for DiskFiles<'r, R> {
             self.faults = self.faults.saturating_add(1);
             return Err(FileFault::Failed);
         };
-        let outcome = read_to_limit(&mut file, out, limit, &mut self.taken);
+        let outcome = read_to_limit(&mut file, &mut self.piece, out, limit, &mut self.taken);
         if outcome == Err(FileFault::Failed) {
             self.faults = self.faults.saturating_add(1);
         }

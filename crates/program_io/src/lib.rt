@@ -13,7 +13,7 @@ mod sink;
 mod stream_sink;
 mod trail;
 
-pub use disk_files::{DiskFiles, read_to_limit};
+pub use disk_files::{DiskFiles, PIECE, read_to_limit};
 pub use files::{FileFault, Files};
 pub use memory_files::MemoryFiles;
 pub use memory_sink::MemorySink;

@@ -2,7 +2,7 @@
 
 use derive_program::{Ran, collect_words};
 use program_io::{
-    DiskFiles, FileFault, Files, MemoryFiles, MemorySink, Sink, SinkFault, StreamSink,
+    DiskFiles, FileFault, Files, MemoryFiles, MemorySink, PIECE, Sink, SinkFault, StreamSink,
     read_to_limit,
 };
 use std::env::FillError;
@@ -115,6 +115,7 @@ impl std::io::Read for Failing {
 #[test]
 fn a_reader_to_its_end(rt: HostRuntime) -> Result<(), Fail> {
     let alloc = rt.alloc();
+    let mut piece = [0; PIECE];
     for (limit, failing, answer, length) in [
         (5, 9, Ok(()), 6),
         (4, 9, Err(FileFault::TooLong), 1),
@@ -125,7 +126,7 @@ fn a_reader_to_its_end(rt: HostRuntime) -> Result<(), Fail> {
         let mut out = [1].to_vec(alloc)?;
         let mut taken = 0u64;
         assert_eq!(rt;
-            read_to_limit(&mut reader, &mut out, limit, &mut taken),
+            read_to_limit(&mut reader, &mut piece, &mut out, limit, &mut taken),
             answer
         );
         assert_eq!(rt; out.len(), length);
