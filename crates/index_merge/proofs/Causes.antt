@@ -11,7 +11,7 @@ use Rattle.gdb_index_format.specs.Size.{IsSize, SizesAreOne}
 use Rattle.index_browser.specs.Laws.{NameListsAreOne}
 use Rattle.index_merge.specs.declared.error.MergeError.{MergeError}
 use Rattle.index_merge.specs.declared.error.MergeError.TheVariants.{OffsetTooLarge, TooManyUnits, IndexTooLarge, NoMemory}
-use Rattle.index_merge.specs.Cause.{IsMergeCause, IsMergeMemory}
+use Rattle.index_merge.specs.Cause.{IsIndexMergeCause, IsMergeMemory}
 use Rattle.index_merge.specs.Joined.{elements_of_both, IsJoinedVector}
 use Rattle.index_merge.specs.Laws.{JoinedVectorsAreOne, MergedSizesAreOne, MergeCausesAreOne, MergeableHasNoCause}
 use Rattle.index_merge.specs.Merged.{merged_counts, IsMergeable}
@@ -74,11 +74,11 @@ no_cause sizes version first second offset (IndexTooLarge n) m p = absurd (omega
 no_cause sizes version first second offset NoMemory m p = refl
 
 -- what is told of a refusal
-pub told : MergedSizesAreOne → (version : ℕ) (first second : List ℕ) (offset : ℕ) (f e : MergeError) → IsMergeCause version first second offset f → IsMergeCause version first second offset e → e ≢ NoMemory → (f ≡ e) ⊎ (f ≡ NoMemory)
+pub told : MergedSizesAreOne → (version : ℕ) (first second : List ℕ) (offset : ℕ) (f e : MergeError) → IsIndexMergeCause version first second offset f → IsIndexMergeCause version first second offset e → e ≢ NoMemory → (f ≡ e) ⊎ (f ≡ NoMemory)
 told sizes version first second offset (OffsetTooLarge k) e p q some = inl (one_cause sizes version first second offset (OffsetTooLarge k) e p q (λ is. cc) some)
 told sizes version first second offset (TooManyUnits n) e p q some = inl (one_cause sizes version first second offset (TooManyUnits n) e p q (λ is. cc) some)
 told sizes version first second offset (IndexTooLarge n) e p q some = inl (one_cause sizes version first second offset (IndexTooLarge n) e p q (λ is. cc) some)
 told sizes version first second offset NoMemory e p q some = inr refl
 
-pub only_memory : MergedSizesAreOne → (version : ℕ) (first second : List ℕ) (offset : ℕ) (e : MergeError) → IsMergeable version first second offset → IsMergeCause version first second offset e → IsMergeMemory e
+pub only_memory : MergedSizesAreOne → (version : ℕ) (first second : List ℕ) (offset : ℕ) (e : MergeError) → IsMergeable version first second offset → IsIndexMergeCause version first second offset e → IsMergeMemory e
 only_memory sizes version first second offset e m p = subst IsMergeMemory (sym (no_cause sizes version first second offset e m p)) tt

@@ -10,7 +10,7 @@ use Rattle.index_browser.specs.Areas.{unit_count}
 use Rattle.index_browser.specs.Checked.{IsWellFormedIndex}
 use Rattle.index_browser.specs.NameList.{IsNameListOf}
 use Rattle.index_merge.specs.Joined.{moved_element}
-use Rattle.index_merge.specs.steps.Merging.{moved_name, joined_name, merged_from, merged, IsOrdered, AreOrdered}
+use Rattle.index_merge.specs.steps.Merging.{moved_name, joined_name, merged_from, merged_lists, IsOrderedName, AreOrdered}
 use Rattle.index_merge.proofs.Orders.{order_of, in_each}
 
 -- a name that an index of so many units can hold, whose elements may have any order
@@ -42,17 +42,17 @@ module _ (u count : ℕ) where
     units = All-append (λ w. unit_number w < count) n.words (map (moved_element u) m.words) g.units h.units;
   }
 
-  good_from : (n : Named) (ns : List Named) → IsGood count n → ((ms : List Named) → AreGoodMoved ms → AreGood (merged u ns ms)) → (ms : List Named) → AreGoodMoved ms → AreGood (merged_from u n (merged u ns) ms)
-  good_from n ns good later [] all = All-cons (IsGood count) n (merged u ns []) good (later [] all)
+  good_from : (n : Named) (ns : List Named) → IsGood count n → ((ms : List Named) → AreGoodMoved ms → AreGood (merged_lists u ns ms)) → (ms : List Named) → AreGoodMoved ms → AreGood (merged_from u n (merged_lists u ns) ms)
+  good_from n ns good later [] all = All-cons (IsGood count) n (merged_lists u ns []) good (later [] all)
   good_from n ns good later (m ∷ ms) all =
       let here = All-head (λ (x : Named). IsGood count (moved_name u x)) m ms all in
       let rest = All-tail (λ (x : Named). IsGood count (moved_name u x)) m ms all in
-      in_each AreGood (order_of n.name m.name) (n ∷ merged u ns (m ∷ ms)) (joined_name u n m ∷ merged u ns ms) (moved_name u m ∷ merged_from u n (merged u ns) ms)
-      (All-cons (IsGood count) n (merged u ns (m ∷ ms)) good (later (m ∷ ms) all))
-      (All-cons (IsGood count) (joined_name u n m) (merged u ns ms) (good_joined n m good here) (later ms rest))
-      (All-cons (IsGood count) (moved_name u m) (merged_from u n (merged u ns) ms) here (good_from n ns good later ms rest))
+      in_each AreGood (order_of n.name m.name) (n ∷ merged_lists u ns (m ∷ ms)) (joined_name u n m ∷ merged_lists u ns ms) (moved_name u m ∷ merged_from u n (merged_lists u ns) ms)
+      (All-cons (IsGood count) n (merged_lists u ns (m ∷ ms)) good (later (m ∷ ms) all))
+      (All-cons (IsGood count) (joined_name u n m) (merged_lists u ns ms) (good_joined n m good here) (later ms rest))
+      (All-cons (IsGood count) (moved_name u m) (merged_from u n (merged_lists u ns) ms) here (good_from n ns good later ms rest))
 
-  pub good_merged : (ns ms : List Named) → AreGood ns → AreGoodMoved ms → AreGood (merged u ns ms)
+  pub good_merged : (ns ms : List Named) → AreGood ns → AreGoodMoved ms → AreGood (merged_lists u ns ms)
   good_merged [] ms left right = good_moved ms right
   good_merged (n ∷ ns) ms left right = good_from n ns (All-head (IsGood count) n ns left) (λ xs all. good_merged ns xs (All-tail (IsGood count) n ns left) all) ms right
 
@@ -60,7 +60,7 @@ module _ (u count : ℕ) where
   still_some [] ys some len none = some refl
   still_some (x ∷ xs) ys some len none = omega (arith, len, ap length none)
 
-  good_ordered : (n m : Named) → IsGood count n → IsOrdered n m → IsNameFor count m
+  good_ordered : (n m : Named) → IsGood count n → IsOrderedName n m → IsNameFor count m
   good_ordered n m g o = record {
     no_zero = subst (All (λ c. c ≢ 0)) (sym o.name) g.no_zero;
     some = still_some n.words m.words g.some (length_permutation n.words m.words o.same);

@@ -12,7 +12,7 @@ use Rattle.gdb_index_format.specs.Probe.{probe}
 use Rattle.gdb_index.specs.Answers.{is_sought, words_under}
 use Rattle.index_browser.specs.NameList.{IsNameListOf, elements_in, elements_of}
 use Rattle.index_merge.specs.Joined.{moved_element}
-use Rattle.index_merge.specs.steps.Merging.{moved_name, joined_name, merged_from, merged}
+use Rattle.index_merge.specs.steps.Merging.{moved_name, joined_name, merged_from, merged_lists}
 use Rattle.index_merge.proofs.Orders.{order_of, Below, Rises, not_itself, turned, same_names, below_more, in_its}
 
 abbrev pub held : List ℕ → List Named → List ℕ
@@ -60,19 +60,19 @@ module _ (u : ℕ) (q : List ℕ) where
   in_second true m ws ys zs none later = ap (λ xs. xs ++ moved m) (sym (none refl))
   in_second false m ws ys zs none later = later
 
-  held_from : (n : Named) (ns : List Named) → Below n.name ns → ((ms : List Named) → Rises ms → held q (merged u ns ms) ≡ held q ns ++ moved (held q ms)) → (ms : List Named) → Rises ms → held q (merged_from u n (merged u ns) ms) ≡ held q (n ∷ ns) ++ moved (held q ms)
-  held_from n ns below later [] rises = in_first (bytes_eq n.name q) n.words (held q (merged u ns [])) (held q ns) [] (λ is. refl) (later [] tt)
+  held_from : (n : Named) (ns : List Named) → Below n.name ns → ((ms : List Named) → Rises ms → held q (merged_lists u ns ms) ≡ held q ns ++ moved (held q ms)) → (ms : List Named) → Rises ms → held q (merged_from u n (merged_lists u ns) ms) ≡ held q (n ∷ ns) ++ moved (held q ms)
+  held_from n ns below later [] rises = in_first (bytes_eq n.name q) n.words (held q (merged_lists u ns [])) (held q ns) [] (λ is. refl) (later [] tt)
   held_from n ns below later (m ∷ ms) rises =
-      in_its (λ xs. held q xs ≡ held q (n ∷ ns) ++ moved (held q (m ∷ ms))) (order_of n.name m.name) (n ∷ merged u ns (m ∷ ms)) (joined_name u n m ∷ merged u ns ms) (moved_name u m ∷ merged_from u n (merged u ns) ms)
-      (λ less. in_first (bytes_eq n.name q) n.words (held q (merged u ns (m ∷ ms))) (held q ns) (held q (m ∷ ms))
+      in_its (λ xs. held q xs ≡ held q (n ∷ ns) ++ moved (held q (m ∷ ms))) (order_of n.name m.name) (n ∷ merged_lists u ns (m ∷ ms)) (joined_name u n m ∷ merged_lists u ns ms) (moved_name u m ∷ merged_from u n (merged_lists u ns) ms)
+      (λ less. in_first (bytes_eq n.name q) n.words (held q (merged_lists u ns (m ∷ ms))) (held q ns) (held q (m ∷ ms))
       (λ is. held_none q (m ∷ ms) (subst (λ p. Below p (m ∷ ms)) (is_name n.name q is) (less, below_more n.name m.name ms less rises.0))) (later (m ∷ ms) rises))
-      (λ equal. in_both (bytes_eq n.name q) n.words m.words (held q (merged u ns ms)) (held q ns) (held q ms) (later ms rises.1)
+      (λ equal. in_both (bytes_eq n.name q) n.words m.words (held q (merged_lists u ns ms)) (held q ns) (held q ms) (later ms rises.1)
       ∙ ap (λ t. held q (n ∷ ns) ++ moved (cond t m.words (held q ms))) (ap (λ p. bytes_eq p q) (same_names n.name m.name equal)))
       (λ greater. let less = turned n.name m.name greater in
-      in_second (bytes_eq m.name q) m.words (held q (merged_from u n (merged u ns) ms)) (held q (n ∷ ns)) (held q ms)
+      in_second (bytes_eq m.name q) m.words (held q (merged_from u n (merged_lists u ns) ms)) (held q (n ∷ ns)) (held q ms)
       (λ is. held_none q (n ∷ ns) (subst (λ p. Below p (n ∷ ns)) (is_name m.name q is) (less, below_more m.name n.name ns less below))) (held_from n ns below later ms rises.1))
 
-  pub held_merged : (ns ms : List Named) → Rises ns → Rises ms → held q (merged u ns ms) ≡ held q ns ++ moved (held q ms)
+  pub held_merged : (ns ms : List Named) → Rises ns → Rises ms → held q (merged_lists u ns ms) ≡ held q ns ++ moved (held q ms)
   held_merged [] ms left right = held_moved ms
   held_merged (n ∷ ns) ms left right = held_from n ns left.0 (λ xs rises. held_merged ns xs left.1 rises) ms right
 

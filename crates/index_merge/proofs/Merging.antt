@@ -6,10 +6,10 @@ use Rattle.index_browser.specs.declared.names.NameEntry.{NameEntry}
 use Rattle.index_browser.specs.Areas.{unit_count}
 use Rattle.index_browser.specs.Checked.{IsWellFormedIndex}
 use Rattle.index_browser.specs.NameList.{all_listed, IsNameListOf}
-use Rattle.index_merge.specs.steps.Merging.{HasRoom, merged, IsOrdered, AreOrdered, IsTaken}
+use Rattle.index_merge.specs.steps.Merging.{HasElementRoom, merged_lists, IsOrderedName, AreOrdered, IsTaken}
 use Rattle.index_merge.proofs.Taking.{HaveRoom}
 
-pub ordered_push : (ns ms : List Named) (n m : Named) → AreOrdered ns ms → IsOrdered n m → AreOrdered (ns ++ n ∷ []) (ms ++ m ∷ [])
+pub ordered_push : (ns ms : List Named) (n m : Named) → AreOrdered ns ms → IsOrderedName n m → AreOrdered (ns ++ n ∷ []) (ms ++ m ∷ [])
 ordered_push [] [] n m all one = (one, tt)
 ordered_push [] (y ∷ ys) n m all one = absurd all
 ordered_push (x ∷ xs) [] n m all one = absurd all
@@ -29,14 +29,14 @@ module _ (u : ℕ) (xs ys : List NameEntry) (i j : ℕ) where
   further k n zs = drop-drop k n zs ∙ ap (λ m. drop m zs) (omega arith)
 
   abbrev pub MergedSoFar : List Named → List Named → ℕ → ℕ → Type 0
-  MergedSoFar all names a b = (done : List Named) × (done ++ merged u (all_listed (drop a xs)) (all_listed (drop b ys)) ≡ all) × AreOrdered done names
+  MergedSoFar all names a b = (done : List Named) × (done ++ merged_lists u (all_listed (drop a xs)) (all_listed (drop b ys)) ≡ all) × AreOrdered done names
 
   pub merged_more : (all names more : List Named) (named : Named) (a b : ℕ) → TakenAt named a b → more ≡ names ++ named ∷ [] → MergedSoFar all names i j → MergedSoFar all more (i + a) (j + b)
   merged_more all names more named a b t grows (done, is, ordered) = (
     done ++ t.least ∷ [],
-    append_assoc done (t.least ∷ []) (merged u (all_listed (drop (i + a) xs)) (all_listed (drop (j + b) ys)))
-        ∙ ap (λ (zs : List NameEntry). done ++ t.least ∷ merged u (all_listed zs) (all_listed (drop (j + b) ys))) (sym (further a i xs))
-        ∙ ap (λ (zs : List NameEntry). done ++ t.least ∷ merged u (all_listed (drop a (drop i xs))) (all_listed zs)) (sym (further b j ys))
+    append_assoc done (t.least ∷ []) (merged_lists u (all_listed (drop (i + a) xs)) (all_listed (drop (j + b) ys)))
+        ∙ ap (λ (zs : List NameEntry). done ++ t.least ∷ merged_lists u (all_listed zs) (all_listed (drop (j + b) ys))) (sym (further a i xs))
+        ∙ ap (λ (zs : List NameEntry). done ++ t.least ∷ merged_lists u (all_listed (drop a (drop i xs))) (all_listed zs)) (sym (further b j ys))
         ∙ ap (λ (ns : List Named). done ++ ns) (sym t.is) ∙ is,
     subst (AreOrdered (done ++ t.least ∷ [])) (sym grows) (ordered_push done names t.least named ordered t.ordered),
   )
@@ -53,7 +53,7 @@ slice_len xs i = ap (λ (zs : List NameEntry). length zs) (slice_is xs i) ∙ le
 
 -- ---- the elements of the second index have room
 
-room_of : (units own element : ℕ) → units + own ≤ 2 ^ 24 → element % 2 ^ 24 < own → HasRoom units element
+room_of : (units own element : ℕ) → units + own ≤ 2 ^ 24 → element % 2 ^ 24 < own → HasElementRoom units element
 room_of units own element few below = omega (arith, few, below)
 
 pub names_have_room : (b : List ℕ) (units : ℕ) (ns : List Named) → IsWellFormedIndex b → units + unit_count b ≤ 2 ^ 24 → IsNameListOf b ns → HaveRoom units ns

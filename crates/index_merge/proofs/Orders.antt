@@ -9,7 +9,7 @@ use Rattle.std.specs.List.Sorted.{IsStrictlySortedBy}
 use Rattle.std.proofs.lemmas.Cmp.{nat_list_cmp_total, tied_itself}
 use Rattle.std.proofs.lemmas.Map.Lookups.{exact_bytes}
 use Rattle.gdb_index_format.specs.Named.{Named, names_in, AreDistinct}
-use Rattle.index_merge.specs.steps.Merging.{moved_name, joined_name, by_order, merged_from, merged}
+use Rattle.index_merge.specs.steps.Merging.{moved_name, joined_name, by_order, merged_from, merged_lists}
 
 abbrev pub order_of : List ℕ → List ℕ → Ordering
 order_of p q = slice_cmp nat_cmp p q
@@ -78,23 +78,23 @@ module _ (u : ℕ) where
       in_each (Below q) (order_of n.name m.name) (n ∷ rest (m ∷ ms)) (joined_name u n m ∷ rest ms) (moved_name u m ∷ merged_from u n rest ms)
       (here, later (m ∷ ms) below) (here, later ms below.1) (below.0, below_from q n rest later here ms below.1)
 
-  pub below_merged : (q : List ℕ) (ns ms : List Named) → Below q ns → Below q ms → Below q (merged u ns ms)
+  pub below_merged : (q : List ℕ) (ns ms : List Named) → Below q ns → Below q ms → Below q (merged_lists u ns ms)
   below_merged q [] ms left right = below_moved q ms right
-  below_merged q (n ∷ ns) ms left right = below_from q n (merged u ns) (λ xs below. below_merged q ns xs left.1 below) left.0 ms right
+  below_merged q (n ∷ ns) ms left right = below_from q n (merged_lists u ns) (λ xs below. below_merged q ns xs left.1 below) left.0 ms right
 
   rises_moved : (ms : List Named) → Rises ms → Rises (map (moved_name u) ms)
   rises_moved [] rises = tt
   rises_moved (m ∷ ms) rises = (below_moved m.name ms rises.0, rises_moved ms rises.1)
 
-  rises_from : (n : Named) (ns : List Named) → Below n.name ns → ((ms : List Named) → Rises ms → Rises (merged u ns ms)) → (ms : List Named) → Rises ms → Rises (merged_from u n (merged u ns) ms)
+  rises_from : (n : Named) (ns : List Named) → Below n.name ns → ((ms : List Named) → Rises ms → Rises (merged_lists u ns ms)) → (ms : List Named) → Rises ms → Rises (merged_from u n (merged_lists u ns) ms)
   rises_from n ns below later [] rises = (below_merged n.name ns [] below tt, later [] tt)
   rises_from n ns below later (m ∷ ms) rises =
-      in_its Rises (order_of n.name m.name) (n ∷ merged u ns (m ∷ ms)) (joined_name u n m ∷ merged u ns ms) (moved_name u m ∷ merged_from u n (merged u ns) ms)
+      in_its Rises (order_of n.name m.name) (n ∷ merged_lists u ns (m ∷ ms)) (joined_name u n m ∷ merged_lists u ns ms) (moved_name u m ∷ merged_from u n (merged_lists u ns) ms)
       (λ less. (below_merged n.name ns (m ∷ ms) below (less, below_more n.name m.name ms less rises.0), later (m ∷ ms) rises))
       (λ equal. (below_merged n.name ns ms below (subst (λ q. Below q ms) (sym (same_names n.name m.name equal)) rises.0), later ms rises.1))
       (λ greater. let less = turned n.name m.name greater in (below_merged m.name (n ∷ ns) ms (less, below_more m.name n.name ns less below) rises.0, rises_from n ns below later ms rises.1))
 
-  pub rises_merged : (ns ms : List Named) → Rises ns → Rises ms → Rises (merged u ns ms)
+  pub rises_merged : (ns ms : List Named) → Rises ns → Rises ms → Rises (merged_lists u ns ms)
   rises_merged [] ms left right = rises_moved ms right
   rises_merged (n ∷ ns) ms left right = rises_from n ns left.0 (λ xs rises. rises_merged ns xs left.1 rises) ms right
 

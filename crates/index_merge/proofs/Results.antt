@@ -29,8 +29,8 @@ use Rattle.index_browser.specs.Checked.{IsWellFormedIndex}
 use Rattle.index_browser.specs.Laws.{LayoutIsChecked, LayoutListsAddresses}
 use Rattle.index_browser.specs.NameList.{elements_of}
 use Rattle.index_merge.specs.Joined.{moved_element, elements_of_both, IsJoinedAnswer}
-use Rattle.index_merge.specs.Merged.{moved_unit, moved_address, units_of_both, addresses_of_both, units_in_all, merged_counts, IsMergedSize, IsMerged}
-use Rattle.index_merge.specs.steps.Merging.{merged, IsOrdered, AreOrdered, AreMergedNames, IsScanOfBoth}
+use Rattle.index_merge.specs.Merged.{moved_unit, moved_address, units_of_both, addresses_of_both, units_in_all, merged_counts, IsMergedSize, IsMergedIndex}
+use Rattle.index_merge.specs.steps.Merging.{merged_lists, IsOrderedName, AreOrdered, AreMergedNames, IsScanOfBoth}
 use Rattle.index_merge.proofs.Orders.{order_of, Below, Rises, rises_of, rises_merged, distinct_of}
 use Rattle.index_merge.proofs.Held.{held, held_merged, held_is}
 use Rattle.index_merge.proofs.Sizes.{Sized, sized}
@@ -91,7 +91,7 @@ abbrev IsAnswerOf : List ℕ → Option (List ℕ) → Type 0
 IsAnswerOf xs None = xs ≡ []
 IsAnswerOf xs (Some ws) = (ws ≢ []) × IsPermutation xs ws × IsNonDecreasing ws
 
-answer_chosen : (t : Bool) (q : List ℕ) (n m : Named) (ns ms : List Named) → m.words ≢ [] → IsOrdered n m → IsAnswerOf (held q ns) (words_under q ms) → IsAnswerOf (cond t n.words (held q ns)) (option_map (λ (x : Named). x.words) (cond t (Some m) (find (is_sought q) ms)))
+answer_chosen : (t : Bool) (q : List ℕ) (n m : Named) (ns ms : List Named) → m.words ≢ [] → IsOrderedName n m → IsAnswerOf (held q ns) (words_under q ms) → IsAnswerOf (cond t n.words (held q ns)) (option_map (λ (x : Named). x.words) (cond t (Some m) (find (is_sought q) ms)))
 answer_chosen true q n m ns ms some o later = (some, o.same, o.ascending)
 answer_chosen false q n m ns ms some o later = later
 
@@ -122,7 +122,7 @@ module _ (first second : List ℕ) (names : List Named) (w : IsWellFormedIndex f
 
   pub named_for : All (IsNameFor (units_in_all first second)) names
   named_for =
-      all_ordered (unit_count first) (units_in_all first second) (merged (unit_count first) m.ns m.ms) names
+      all_ordered (unit_count first) (units_in_all first second) (merged_lists (unit_count first) m.ns m.ms) names
       (good_merged (unit_count first) (units_in_all first second) m.ns m.ms
       (first_good first (units_in_all first second) m.ns w (omega arith) few m.listed)
       (second_good second (unit_count first) (units_in_all first second) m.ms v refl few m.second_listed))
@@ -135,7 +135,7 @@ module _ (first second : List ℕ) (names : List Named) (w : IsWellFormedIndex f
       (held_merged (unit_count first) q m.ns m.ms left right
       ∙ ap (λ xs. xs ++ map (moved_element (unit_count first)) (held q m.ms)) (held_is first q m.ns m.listed)
       ∙ ap (λ xs. elements_of first q ++ map (moved_element (unit_count first)) xs) (held_is second q m.ms m.second_listed))
-      (ordered_answer q (merged (unit_count first) m.ns m.ms) names (units_in_all first second) m.ordered named_for))
+      (ordered_answer q (merged_lists (unit_count first) m.ns m.ms) names (units_in_all first second) m.ordered named_for))
 
   pub parts_of : (us : List CuBoundary) (offset placed : ℕ) → us ≡ units_of_both first second offset → placed ≡ length (addresses_of_both first second) → AreIndexParts us names placed
   parts_of us offset placed units is =
@@ -144,7 +144,7 @@ module _ (first second : List ℕ) (names : List Named) (w : IsWellFormedIndex f
         units = omega (arith, count, few);
         few = omega (arith, sized_names.few, m.few);
         names = subst (λ n. All (IsNameFor n) names) (sym count) named_for;
-        distinct = distinct_of names (rises_ordered (merged (unit_count first) m.ns m.ms) names m.ordered (rises_merged (unit_count first) m.ns m.ms left right));
+        distinct = distinct_of names (rises_ordered (merged_lists (unit_count first) m.ns m.ms) names m.ordered (rises_merged (unit_count first) m.ns m.ms left right));
         some_unit = λ none.
             let zero_units : units_in_all first second ≡ 0 = sym count ∙ ap (λ (xs : List CuBoundary). length xs) none in
             (no_name names (units_in_all first second) zero_units named_for, is ∙ ap (λ (xs : List AddressEntry). length xs) (no_entry (addresses_of_both first second) (units_in_all first second) zero_units (addresses_exist first second w v)));
@@ -217,7 +217,7 @@ no_item (x ∷ xs) none = absurd (omega (arith, none))
 
 module _ (first second : List ℕ) (offset : ℕ) (s : Scan) (w : IsWellFormedIndex first) (v : IsWellFormedIndex second) (few : units_in_all first second ≤ 2 ^ 24) (b : IsScanOfBoth first second offset s) where
   -- without a unit the merged index has no bytes
-  pub merged_none : (version : IndexVersion) (size : ℕ) (index : List ℕ) → size ≡ 0 → IsIndexSize (version_number version) (scan_counts s) size → index ≡ [] → IsMerged version first second offset index
+  pub merged_none : (version : IndexVersion) (size : ℕ) (index : List ℕ) → size ≡ 0 → IsIndexSize (version_number version) (scan_counts s) size → index ≡ [] → IsMergedIndex version first second offset index
   merged_none version size index zero_size is empty =
       let zero_units : units_in_all first second ≡ 0 = sym (units_length first second offset) ∙ ap (λ (us : List CuBoundary). length us) (sym b.units) ∙ no_unit (version_number version) (format_counts (scan_counts s)) size zero_size is in
       let none : b.names ≡ [] = no_name b.names (units_in_all first second) zero_units (named_for first second b.names w v few b.merged_names) in
@@ -231,7 +231,7 @@ module _ (first second : List ℕ) (offset : ℕ) (s : Scan) (w : IsWellFormedIn
       }
 
   pub merged_some : (version : IndexVersion) (size : ℕ) (addresses : List AddressEntry) (index : List ℕ) → size < 2 ^ 32 → IsIndexSize (version_number version) (scan_counts s) size → length index ≡ size → addresses ≡ addresses_of_both first second → AreAddresses addresses
-      → IsLayoutOf (version_number version) s addresses index → index_units index ≡ s.units → AnswersFor index s.names → LayoutIsChecked → LayoutListsAddresses → IsMerged version first second offset index
+      → IsLayoutOf (version_number version) s addresses index → index_units index ≡ s.units → AnswersFor index s.names → LayoutIsChecked → LayoutListsAddresses → IsMergedIndex version first second offset index
   merged_some version size addresses index small is len are fit layout units answers checks lists =
       let short : length index < 2 ^ 32 = omega (arith, len, small) in
       let list = lists version s addresses index short b.well_formed fit layout in

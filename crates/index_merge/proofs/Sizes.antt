@@ -12,7 +12,7 @@ use Rattle.gdb_index.specs.Pool.{names_len}
 use Rattle.gdb_index.specs.Scan.{word_count}
 use Rattle.index_merge.specs.Joined.{moved_element}
 use Rattle.index_merge.specs.Merged.{names_beside}
-use Rattle.index_merge.specs.steps.Merging.{moved_name, joined_name, merged_from, merged, AreOrdered}
+use Rattle.index_merge.specs.steps.Merging.{moved_name, joined_name, merged_from, merged_lists, AreOrdered}
 use Rattle.index_merge.proofs.Orders.{order_of, Below, Rises, not_itself, turned, same_names, below_more, in_each, in_its}
 use Rattle.index_merge.proofs.Held.{differs}
 
@@ -57,16 +57,16 @@ module _ (u : ℕ) (f : List ℕ → ℕ) where
   weigh_moved [] = refl
   weigh_moved (m ∷ ms) = weigh-cons (moved_name u m) (map (moved_name u) ms) ∙ ap (λ k. f m.name + k) (weigh_moved ms) ∙ sym (weigh-cons m ms)
 
-  weigh_from : (n : Named) (ns : List Named) → Below n.name ns → ((ms : List Named) → Rises ms → weigh (merged u ns ms) ≡ weigh ns + weigh (names_beside ns ms)) → (ms : List Named) → Rises ms → weigh (merged_from u n (merged u ns) ms) ≡ weigh (n ∷ ns) + weigh (names_beside (n ∷ ns) ms)
-  weigh_from n ns below later [] rises = omega (arith, weigh-cons n (merged u ns []), weigh-cons n ns, later [] tt)
+  weigh_from : (n : Named) (ns : List Named) → Below n.name ns → ((ms : List Named) → Rises ms → weigh (merged_lists u ns ms) ≡ weigh ns + weigh (names_beside ns ms)) → (ms : List Named) → Rises ms → weigh (merged_from u n (merged_lists u ns) ms) ≡ weigh (n ∷ ns) + weigh (names_beside (n ∷ ns) ms)
+  weigh_from n ns below later [] rises = omega (arith, weigh-cons n (merged_lists u ns []), weigh-cons n ns, later [] tt)
   weigh_from n ns below later (m ∷ ms) rises =
-      in_its (λ xs. weigh xs ≡ weigh (n ∷ ns) + weigh (names_beside (n ∷ ns) (m ∷ ms))) (order_of n.name m.name) (n ∷ merged u ns (m ∷ ms)) (joined_name u n m ∷ merged u ns ms) (moved_name u m ∷ merged_from u n (merged u ns) ms)
-      (λ less. omega (arith, weigh-cons n (merged u ns (m ∷ ms)), weigh-cons n ns, later (m ∷ ms) rises, ap weigh (beside_below n ns (m ∷ ms) (less, below_more n.name m.name ms less rises.0))))
-      (λ equal. omega (arith, weigh-cons (joined_name u n m) (merged u ns ms), weigh-cons n ns, later ms rises.1, ap weigh (beside_same n m ns ms (same_names n.name m.name equal) rises.0)))
+      in_its (λ xs. weigh xs ≡ weigh (n ∷ ns) + weigh (names_beside (n ∷ ns) (m ∷ ms))) (order_of n.name m.name) (n ∷ merged_lists u ns (m ∷ ms)) (joined_name u n m ∷ merged_lists u ns ms) (moved_name u m ∷ merged_from u n (merged_lists u ns) ms)
+      (λ less. omega (arith, weigh-cons n (merged_lists u ns (m ∷ ms)), weigh-cons n ns, later (m ∷ ms) rises, ap weigh (beside_below n ns (m ∷ ms) (less, below_more n.name m.name ms less rises.0))))
+      (λ equal. omega (arith, weigh-cons (joined_name u n m) (merged_lists u ns ms), weigh-cons n ns, later ms rises.1, ap weigh (beside_same n m ns ms (same_names n.name m.name equal) rises.0)))
       (λ greater. let less = turned n.name m.name greater in
-      omega (arith, weigh-cons (moved_name u m) (merged_from u n (merged u ns) ms), weigh-cons m (names_beside (n ∷ ns) ms), weigh_from n ns below later ms rises.1, ap weigh (beside_first m (n ∷ ns) ms (less, below_more m.name n.name ns less below))))
+      omega (arith, weigh-cons (moved_name u m) (merged_from u n (merged_lists u ns) ms), weigh-cons m (names_beside (n ∷ ns) ms), weigh_from n ns below later ms rises.1, ap weigh (beside_first m (n ∷ ns) ms (less, below_more m.name n.name ns less below))))
 
-  pub weigh_merged : (ns ms : List Named) → Rises ns → Rises ms → weigh (merged u ns ms) ≡ weigh ns + weigh (names_beside ns ms)
+  pub weigh_merged : (ns ms : List Named) → Rises ns → Rises ms → weigh (merged_lists u ns ms) ≡ weigh ns + weigh (names_beside ns ms)
   weigh_merged [] ms left right = weigh_moved ms ∙ ap weigh (sym (beside_none ms)) ∙ plain (weigh (names_beside [] ms)) where
     plain : (k : ℕ) → k ≡ 0 + k
     plain k = omega arith
@@ -93,15 +93,15 @@ module _ (u : ℕ) where
   words_moved [] = refl
   words_moved (m ∷ ms) = omega (arith, words-cons (moved_name u m) (map (moved_name u) ms), words-cons m ms, length-map m.words (moved_element u), words_moved ms)
 
-  words_from : (n : Named) (ns : List Named) → ((ms : List Named) → word_count (merged u ns ms) ≡ word_count ns + word_count ms) → (ms : List Named) → word_count (merged_from u n (merged u ns) ms) ≡ word_count (n ∷ ns) + word_count ms
-  words_from n ns later [] = omega (arith, words-cons n (merged u ns []), words-cons n ns, later [])
+  words_from : (n : Named) (ns : List Named) → ((ms : List Named) → word_count (merged_lists u ns ms) ≡ word_count ns + word_count ms) → (ms : List Named) → word_count (merged_from u n (merged_lists u ns) ms) ≡ word_count (n ∷ ns) + word_count ms
+  words_from n ns later [] = omega (arith, words-cons n (merged_lists u ns []), words-cons n ns, later [])
   words_from n ns later (m ∷ ms) =
-      in_each (λ xs. word_count xs ≡ word_count (n ∷ ns) + word_count (m ∷ ms)) (order_of n.name m.name) (n ∷ merged u ns (m ∷ ms)) (joined_name u n m ∷ merged u ns ms) (moved_name u m ∷ merged_from u n (merged u ns) ms)
-      (omega (arith, words-cons n (merged u ns (m ∷ ms)), words-cons n ns, later (m ∷ ms)))
-      (omega (arith, words-cons (joined_name u n m) (merged u ns ms), words-cons n ns, words-cons m ms, later ms, length-append n.words (map (moved_element u) m.words), length-map m.words (moved_element u)))
-      (omega (arith, words-cons (moved_name u m) (merged_from u n (merged u ns) ms), words-cons m ms, length-map m.words (moved_element u), words_from n ns later ms))
+      in_each (λ xs. word_count xs ≡ word_count (n ∷ ns) + word_count (m ∷ ms)) (order_of n.name m.name) (n ∷ merged_lists u ns (m ∷ ms)) (joined_name u n m ∷ merged_lists u ns ms) (moved_name u m ∷ merged_from u n (merged_lists u ns) ms)
+      (omega (arith, words-cons n (merged_lists u ns (m ∷ ms)), words-cons n ns, later (m ∷ ms)))
+      (omega (arith, words-cons (joined_name u n m) (merged_lists u ns ms), words-cons n ns, words-cons m ms, later ms, length-append n.words (map (moved_element u) m.words), length-map m.words (moved_element u)))
+      (omega (arith, words-cons (moved_name u m) (merged_from u n (merged_lists u ns) ms), words-cons m ms, length-map m.words (moved_element u), words_from n ns later ms))
 
-  words_merged : (ns ms : List Named) → word_count (merged u ns ms) ≡ word_count ns + word_count ms
+  words_merged : (ns ms : List Named) → word_count (merged_lists u ns ms) ≡ word_count ns + word_count ms
   words_merged [] ms = words_moved ms ∙ plain (word_count ms) where
     plain : (k : ℕ) → k ≡ 0 + k
     plain k = omega arith
@@ -128,12 +128,12 @@ filtered ns (m ∷ ms) = by (any_is m.name ns) (filtered ns ms) where
   by true l = omega (arith, l)
   by false l = omega (arith, l)
 
-pub sized : (u : ℕ) (ns ms names : List Named) → Rises ns → Rises ms → AreOrdered (merged u ns ms) names → Sized ns ms names
+pub sized : (u : ℕ) (ns ms names : List Named) → Rises ns → Rises ms → AreOrdered (merged_lists u ns ms) names → Sized ns ms names
 sized u ns ms names left right ordered =
-    let count : length names ≡ length ns + length (names_beside ns ms) = omega (arith, ones names, ones ns, ones (names_beside ns ms), weigh_ordered (λ q. 1) (merged u ns ms) names ordered, weigh_merged u (λ q. 1) ns ms left right) in
+    let count : length names ≡ length ns + length (names_beside ns ms) = omega (arith, ones names, ones ns, ones (names_beside ns ms), weigh_ordered (λ q. 1) (merged_lists u ns ms) names ordered, weigh_merged u (λ q. 1) ns ms left right) in
     record {
       names_are = count;
-      words_are = sym (words_ordered (merged u ns ms) names ordered) ∙ words_merged u ns ms;
-      bytes_are = sym (weigh_ordered (λ q. length q + 1) (merged u ns ms) names ordered) ∙ weigh_merged u (λ q. length q + 1) ns ms left right;
+      words_are = sym (words_ordered (merged_lists u ns ms) names ordered) ∙ words_merged u ns ms;
+      bytes_are = sym (weigh_ordered (λ q. length q + 1) (merged_lists u ns ms) names ordered) ∙ weigh_merged u (λ q. length q + 1) ns ms left right;
       few = omega (arith, count, filtered ns ms);
     }

@@ -10,7 +10,7 @@ use Rattle.gdb_index_format.specs.Named.{Named}
 use Rattle.index_browser.specs.declared.names.NameEntry.{NameEntry}
 use Rattle.index_browser.specs.NameList.{listed_name, all_listed}
 use Rattle.index_merge.specs.Joined.{moved_element}
-use Rattle.index_merge.specs.steps.Merging.{HasRoom, moved_name, joined_name, by_order, merged, IsOrdered, IsTaken}
+use Rattle.index_merge.specs.steps.Merging.{HasElementRoom, moved_name, joined_name, by_order, merged_lists, IsOrderedName, IsTaken}
 use Rattle.index_merge.proofs.Pushing.{map_same, element_stays}
 
 -- a list as a pattern takes it apart
@@ -31,51 +31,51 @@ apart xs x some is = ap all_listed (taken_apart xs x some is)
 
 module _ (u : ℕ) where
   abbrev pub HaveRoom : List Named → Type 0
-  HaveRoom ms = All (λ m. All (HasRoom u) m.words) ms
+  HaveRoom ms = All (λ m. All (HasElementRoom u) m.words) ms
 
-  pub head_room : (ms rest : List Named) (m : Named) → ms ≡ m ∷ rest → HaveRoom ms → All (HasRoom u) m.words
-  head_room ms rest m is all = All-head (λ (n : Named). All (HasRoom u) n.words) m rest (subst HaveRoom is all)
+  pub head_room : (ms rest : List Named) (m : Named) → ms ≡ m ∷ rest → HaveRoom ms → All (HasElementRoom u) m.words
+  head_room ms rest m is all = All-head (λ (n : Named). All (HasElementRoom u) n.words) m rest (subst HaveRoom is all)
 
   rest_room : (ms rest : List Named) (m : Named) → ms ≡ m ∷ rest → HaveRoom ms → HaveRoom rest
-  rest_room ms rest m is all = All-tail (λ (n : Named). All (HasRoom u) n.words) m rest (subst HaveRoom is all)
+  rest_room ms rest m is all = All-tail (λ (n : Named). All (HasElementRoom u) n.words) m rest (subst HaveRoom is all)
 
-  stays : (n named : Named) → IsOrdered (moved_name 0 n) named → IsOrdered n named
-  stays n named is = subst (λ (ws : List ℕ). IsOrdered (record { name = n.name; words = ws }) named) (map_same (moved_element 0) element_stays n.words) is
+  stays : (n named : Named) → IsOrderedName (moved_name 0 n) named → IsOrderedName n named
+  stays n named is = subst (λ (ws : List ℕ). IsOrderedName (record { name = n.name; words = ws }) named) (map_same (moved_element 0) element_stays n.words) is
 
-  in_order : (o : Ordering) (n m : Named) (ns ms : List Named) → slice_cmp nat_cmp n.name m.name ≡ o → merged u (n ∷ ns) (m ∷ ms) ≡ by_order o (n ∷ merged u ns (m ∷ ms)) (joined_name u n m ∷ merged u ns ms) (moved_name u m ∷ merged u (n ∷ ns) ms)
-  in_order o n m ns ms is = ap (λ (x : Ordering). by_order x (n ∷ merged u ns (m ∷ ms)) (joined_name u n m ∷ merged u ns ms) (moved_name u m ∷ merged u (n ∷ ns) ms)) is
+  in_order : (o : Ordering) (n m : Named) (ns ms : List Named) → slice_cmp nat_cmp n.name m.name ≡ o → merged_lists u (n ∷ ns) (m ∷ ms) ≡ by_order o (n ∷ merged_lists u ns (m ∷ ms)) (joined_name u n m ∷ merged_lists u ns ms) (moved_name u m ∷ merged_lists u (n ∷ ns) ms)
+  in_order o n m ns ms is = ap (λ (x : Ordering). by_order x (n ∷ merged_lists u ns (m ∷ ms)) (joined_name u n m ∷ merged_lists u ns ms) (moved_name u m ∷ merged_lists u (n ∷ ns) ms)) is
 
-  both_are : (ns ms : List Named) (n m : Named) (ns_left ms_left : List Named) → ns ≡ n ∷ ns_left → ms ≡ m ∷ ms_left → merged u ns ms ≡ merged u (n ∷ ns_left) (m ∷ ms_left)
-  both_are ns ms n m ns_left ms_left left right = ap (λ xs. merged u xs ms) left ∙ ap (λ xs. merged u (n ∷ ns_left) xs) right
+  both_are : (ns ms : List Named) (n m : Named) (ns_left ms_left : List Named) → ns ≡ n ∷ ns_left → ms ≡ m ∷ ms_left → merged_lists u ns ms ≡ merged_lists u (n ∷ ns_left) (m ∷ ms_left)
+  both_are ns ms n m ns_left ms_left left right = ap (λ xs. merged_lists u xs ms) left ∙ ap (λ xs. merged_lists u (n ∷ ns_left) xs) right
 
-  pub take_alone : (ns ms ns_left : List Named) (n named : Named) → ns ≡ n ∷ ns_left → ms ≡ [] → IsOrdered (moved_name 0 n) named → IsTaken u ns ms named ns_left ms
+  pub take_alone : (ns ms ns_left : List Named) (n named : Named) → ns ≡ n ∷ ns_left → ms ≡ [] → IsOrderedName (moved_name 0 n) named → IsTaken u ns ms named ns_left ms
   take_alone ns ms ns_left n named left right is = record {
     least = n;
     ordered = stays n named is;
-    is = ap (λ xs. merged u xs ms) left ∙ ap (λ xs. merged u (n ∷ ns_left) xs) right ∙ ap (λ xs. n ∷ merged u ns_left xs) (sym right);
+    is = ap (λ xs. merged_lists u xs ms) left ∙ ap (λ xs. merged_lists u (n ∷ ns_left) xs) right ∙ ap (λ xs. n ∷ merged_lists u ns_left xs) (sym right);
     fewer = omega (arith, ap length left);
     room = λ all. all;
   }
 
-  pub take_second_alone : (ns ms ms_left : List Named) (m named : Named) → ns ≡ [] → ms ≡ m ∷ ms_left → IsOrdered (moved_name u m) named → IsTaken u ns ms named ns ms_left
+  pub take_second_alone : (ns ms ms_left : List Named) (m named : Named) → ns ≡ [] → ms ≡ m ∷ ms_left → IsOrderedName (moved_name u m) named → IsTaken u ns ms named ns ms_left
   take_second_alone ns ms ms_left m named left right is = record {
     least = moved_name u m;
     ordered = is;
-    is = ap (λ xs. merged u xs ms) left ∙ ap (merged u []) right ∙ ap (λ xs. moved_name u m ∷ merged u xs ms_left) (sym left);
+    is = ap (λ xs. merged_lists u xs ms) left ∙ ap (merged_lists u []) right ∙ ap (λ xs. moved_name u m ∷ merged_lists u xs ms_left) (sym left);
     fewer = omega (arith, ap length right);
     room = rest_room ms ms_left m right;
   }
 
-  pub take_first : (ns ms ns_left ms_left : List Named) (n m named : Named) → ns ≡ n ∷ ns_left → ms ≡ m ∷ ms_left → slice_cmp nat_cmp n.name m.name ≡ Less → IsOrdered (moved_name 0 n) named → IsTaken u ns ms named ns_left ms
+  pub take_first : (ns ms ns_left ms_left : List Named) (n m named : Named) → ns ≡ n ∷ ns_left → ms ≡ m ∷ ms_left → slice_cmp nat_cmp n.name m.name ≡ Less → IsOrderedName (moved_name 0 n) named → IsTaken u ns ms named ns_left ms
   take_first ns ms ns_left ms_left n m named left right less is = record {
     least = n;
     ordered = stays n named is;
-    is = both_are ns ms n m ns_left ms_left left right ∙ in_order Less n m ns_left ms_left less ∙ ap (λ xs. n ∷ merged u ns_left xs) (sym right);
+    is = both_are ns ms n m ns_left ms_left left right ∙ in_order Less n m ns_left ms_left less ∙ ap (λ xs. n ∷ merged_lists u ns_left xs) (sym right);
     fewer = omega (arith, ap length left);
     room = λ all. all;
   }
 
-  pub take_both : (ns ms ns_left ms_left : List Named) (n m named : Named) → ns ≡ n ∷ ns_left → ms ≡ m ∷ ms_left → slice_cmp nat_cmp n.name m.name ≡ Equal → IsOrdered (joined_name u n m) named → IsTaken u ns ms named ns_left ms_left
+  pub take_both : (ns ms ns_left ms_left : List Named) (n m named : Named) → ns ≡ n ∷ ns_left → ms ≡ m ∷ ms_left → slice_cmp nat_cmp n.name m.name ≡ Equal → IsOrderedName (joined_name u n m) named → IsTaken u ns ms named ns_left ms_left
   take_both ns ms ns_left ms_left n m named left right same is = record {
     least = joined_name u n m;
     ordered = is;
@@ -84,11 +84,11 @@ module _ (u : ℕ) where
     room = rest_room ms ms_left m right;
   }
 
-  pub take_second : (ns ms ns_left ms_left : List Named) (n m named : Named) → ns ≡ n ∷ ns_left → ms ≡ m ∷ ms_left → slice_cmp nat_cmp n.name m.name ≡ Greater → IsOrdered (moved_name u m) named → IsTaken u ns ms named ns ms_left
+  pub take_second : (ns ms ns_left ms_left : List Named) (n m named : Named) → ns ≡ n ∷ ns_left → ms ≡ m ∷ ms_left → slice_cmp nat_cmp n.name m.name ≡ Greater → IsOrderedName (moved_name u m) named → IsTaken u ns ms named ns ms_left
   take_second ns ms ns_left ms_left n m named left right greater is = record {
     least = moved_name u m;
     ordered = is;
-    is = both_are ns ms n m ns_left ms_left left right ∙ in_order Greater n m ns_left ms_left greater ∙ ap (λ xs. moved_name u m ∷ merged u xs ms_left) (sym left);
+    is = both_are ns ms n m ns_left ms_left left right ∙ in_order Greater n m ns_left ms_left greater ∙ ap (λ xs. moved_name u m ∷ merged_lists u xs ms_left) (sym left);
     fewer = omega (arith, ap length right);
     room = rest_room ms ms_left m right;
   }

@@ -2,7 +2,7 @@
 use Rattle.std.specs.Prelude.{◌≡◌, ◌≢◌, ℕ, List}
 use Rattle.index_merge.specs.declared.error.MergeError.{MergeError}
 use Rattle.index_merge.specs.declared.error.MergeError.TheVariants.{NoMemory}
-use Rattle.index_merge.specs.Cause.{IsMergeCause}
+use Rattle.index_merge.specs.Cause.{IsIndexMergeCause}
 use Rattle.index_merge.specs.Joined.{IsJoinedVector}
 use Rattle.index_merge.specs.Merged.{IsMergedSize, IsMergeable}
 
@@ -16,8 +16,8 @@ MergedSizesAreOne = (version : ℕ) (first second : List ℕ) (s t : ℕ) → Is
 
 -- two indexes are not merged for one cause
 abbrev pub MergeCausesAreOne : Type 0
-MergeCausesAreOne = (version : ℕ) (first second : List ℕ) (offset : ℕ) (e f : MergeError) → IsMergeCause version first second offset e → IsMergeCause version first second offset f → e ≢ NoMemory → f ≢ NoMemory → e ≡ f
+MergeCausesAreOne = (version : ℕ) (first second : List ℕ) (offset : ℕ) (e f : MergeError) → IsIndexMergeCause version first second offset e → IsIndexMergeCause version first second offset f → e ≢ NoMemory → f ≢ NoMemory → e ≡ f
 
 -- two indexes that can be merged have no cause but out of memory
 abbrev pub MergeableHasNoCause : Type 0
-MergeableHasNoCause = (version : ℕ) (first second : List ℕ) (offset : ℕ) (e : MergeError) → IsMergeable version first second offset → IsMergeCause version first second offset e → e ≡ NoMemory
+MergeableHasNoCause = (version : ℕ) (first second : List ℕ) (offset : ℕ) (e : MergeError) → IsMergeable version first second offset → IsIndexMergeCause version first second offset e → e ≡ NoMemory

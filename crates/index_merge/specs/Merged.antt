@@ -68,7 +68,7 @@ pub record IsMergedSize (version : ℕ) (first second : List ℕ) (size : ℕ) :
 -- The merged index of two indexes, the units of the second so many bytes further on, in a version. It has the merged size,
 -- lists the units and address entries of both, and can be browsed. For every byte string its probe finds the joined CU
 -- vector where that has elements, and else none.
-pub record IsMerged (version : IndexVersion) (first second : List ℕ) (offset : ℕ) (b : List ℕ) : Type 0 where
+pub record IsMergedIndex (version : IndexVersion) (first second : List ℕ) (offset : ℕ) (b : List ℕ) : Type 0 where
   pub size : IsMergedSize (version_number version) first second (length b)
   pub version_is : b ≢ [] → u32_at b 0 ≡ version_number version
   pub units : index_units b ≡ units_of_both first second offset

@@ -7,10 +7,10 @@ ghost use Rattle.gdb_index.specs.Answers.{AnswersFor};
 ghost use Rattle.gdb_index.specs.Layout.{IsLayoutOf};
 ghost use Rattle.gdb_index.specs.Size.{IsIndexSize, scan_counts};
 ghost use Rattle.index_browser.specs.Areas.{unit_count};
-ghost use Rattle.index_merge.specs.Cause.{IsMergeCause, IsUnmergedFor, IsMergeMemory};
+ghost use Rattle.index_merge.specs.Cause.{IsIndexMergeCause, IsUnmergedFor, IsMergeMemory};
 ghost use Rattle.index_merge.specs.declared.error.MergeError.{MergeError as MergeError_spec};
 ghost use Rattle.index_merge.specs.declared.error.MergeError.TheVariants.{NoMemory};
-ghost use Rattle.index_merge.specs.Merged.{units_in_all, addresses_of_both, is_too_far, IsMerged, IsMergeable};
+ghost use Rattle.index_merge.specs.Merged.{units_in_all, addresses_of_both, is_too_far, IsMergedIndex, IsMergeable};
 ghost use Rattle.index_merge.specs.steps.Merging.{IsScanOfBoth};
 
 use crate::addresses::joined_addresses;
@@ -84,9 +84,9 @@ fn merged_bytes(
 ) -> Result<Vec<u8>, MergeError>
     requires near { position (is_too_far offset) (index_units second.now) ≡ None }
     requires few { units_in_all first.now second.now ≤ 2 ^ 24 }
-    ensures merged { IfOk result (λ v. IsMerged version first.now second.now offset v.items) }
+    ensures merged { IfOk result (λ v. IsMergedIndex version first.now second.now offset v.items) }
     ensures mergeable { OnOk result (IsMergeable (version_number version) first.now second.now offset) }
-    ensures cause { IfErr result (IsMergeCause (version_number version) first.now second.now offset) }
+    ensures cause { IfErr result (IsIndexMergeCause (version_number version) first.now second.now offset) }
 {
     checked_is_well_formed();
     layout_is_checked();
@@ -129,10 +129,10 @@ pub fn merge_indexes<'a>(
     offset: u64,
     version: IndexVersion,
 ) -> Result<Vec<u8>, MergeError>
-    ensures merged { IfOk result (λ v. IsMerged version first.now second.now offset v.items) }
+    ensures merged { IfOk result (λ v. IsMergedIndex version first.now second.now offset v.items) }
     ensures mergeable { OnOk result (IsMergeable (version_number version) first.now second.now offset) }
-    ensures cause { IfErr result (IsMergeCause (version_number version) first.now second.now offset) }
-    ensures exact { (e : MergeError_spec) → IsMergeCause (version_number version) first.now second.now offset e → e ≢ NoMemory → IsUnmergedFor result e }
+    ensures cause { IfErr result (IsIndexMergeCause (version_number version) first.now second.now offset) }
+    ensures exact { (e : MergeError_spec) → IsIndexMergeCause (version_number version) first.now second.now offset e → e ≢ NoMemory → IsUnmergedFor result e }
     ensures complete { IsMergeable (version_number version) first.now second.now offset → IfErr result IsMergeMemory }
 {
     merged_sizes_are_one();

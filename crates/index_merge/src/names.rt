@@ -7,7 +7,7 @@ ghost use Rattle.index_browser.specs.Areas.{unit_count};
 ghost use Rattle.index_browser.specs.NameList.{listed_name, all_listed};
 ghost use Rattle.index_merge.specs.Joined.{moved_element};
 ghost use Rattle.index_merge.specs.Merged.{units_in_all};
-ghost use Rattle.index_merge.specs.steps.Merging.{HasRoom, moved_name, joined_name as joined_named, merged, IsOrdered, AreOrdered, IsTaken, AreMergedNames};
+ghost use Rattle.index_merge.specs.steps.Merging.{HasElementRoom, moved_name, joined_name as joined_named, merged_lists, IsOrderedName, AreOrdered, IsTaken, AreMergedNames};
 
 use gdb_index::CuVector;
 use gdb_index_format::NameWords;
@@ -17,7 +17,7 @@ use std::cmp::Ordering;
 
 /// Pushes the elements of a CU vector, where so many units stand before those that it counts from.
 fn push_elements(words: &mut Vec<u32>, vector: &CuVector<'_>, units: u32) -> Result<(), AllocError>
-    requires { All (HasRoom units) vector.now }
+    requires { All (HasElementRoom units) vector.now }
     ensures { OnOk result (words.new.items ≡ words.old.items ++ map (moved_element units) vector.now) }
 {
     let mut index = 0;
@@ -30,7 +30,7 @@ fn push_elements(words: &mut Vec<u32>, vector: &CuVector<'_>, units: u32) -> Res
 
 /// Returns a name with its elements in ascending order.
 fn ordered<'a>(name: &'a [u8], mut words: Vec<u32>) -> Result<NameWords<'a>, AllocError>
-    ensures { IfOk result (λ n. IsOrdered (record { name = name.now; words = words.items }) (named_of n)) }
+    ensures { IfOk result (λ n. IsOrderedName (record { name = name.now; words = words.items }) (named_of n)) }
 {
     words.sort()?;
     Ok(NameWords { name, words })
@@ -42,8 +42,8 @@ fn own_name<'a>(
     entry: &NameEntry<'a>,
     units: u32,
 ) -> Result<NameWords<'a>, AllocError>
-    requires { All (HasRoom units) entry.now.vector }
-    ensures { IfOk result (λ n. IsOrdered (moved_name units (listed_name entry.now)) (named_of n)) }
+    requires { All (HasElementRoom units) entry.now.vector }
+    ensures { IfOk result (λ n. IsOrderedName (moved_name units (listed_name entry.now)) (named_of n)) }
 {
     let mut words = Vec::with_capacity(alloc, entry.vector.len())?;
     push_elements(&mut words, &entry.vector, units)?;
@@ -58,8 +58,8 @@ fn joined_name<'a>(
     second: &NameEntry<'_>,
     units: u32,
 ) -> Result<NameWords<'a>, AllocError>
-    requires { All (HasRoom units) second.now.vector }
-    ensures { IfOk result (λ n. IsOrdered (joined_named units (listed_name first.now) (listed_name second.now)) (named_of n)) }
+    requires { All (HasElementRoom units) second.now.vector }
+    ensures { IfOk result (λ n. IsOrderedName (joined_named units (listed_name first.now) (listed_name second.now)) (named_of n)) }
 {
     let mut words = Vec::with_capacity(alloc, first.vector.len())?;
     push_elements(&mut words, &first.vector, 0)?;
@@ -85,7 +85,7 @@ fn take_of_both<'a>(
 ) -> Result<Taken<'a>, AllocError>
     requires first { 0 < length first.now }
     requires second { 0 < length second.now }
-    requires room { All (λ m. All (HasRoom units) m.words) (all_listed second.now) }
+    requires room { All (λ m. All (HasElementRoom units) m.words) (all_listed second.now) }
     ensures taken { IfOk result (λ t. IsTaken units (all_listed first.now) (all_listed second.now) (named_of t.named) (all_listed (drop t.from_first first.now)) (all_listed (drop t.from_second second.now))) }
     ensures within { IfOk result (λ t. (t.from_first ≤ length first.now) × (t.from_second ≤ length second.now)) }
 {
@@ -127,7 +127,7 @@ fn take_least<'a>(
     units: u32,
 ) -> Result<Taken<'a>, AllocError>
     requires some { 0 < length first.now + length second.now }
-    requires room { All (λ m. All (HasRoom units) m.words) (all_listed second.now) }
+    requires room { All (λ m. All (HasElementRoom units) m.words) (all_listed second.now) }
     ensures taken { IfOk result (λ t. IsTaken units (all_listed first.now) (all_listed second.now) (named_of t.named) (all_listed (drop t.from_first first.now)) (all_listed (drop t.from_second second.now))) }
     ensures within { IfOk result (λ t. (t.from_first ≤ length first.now) × (t.from_second ≤ length second.now)) }
 {
@@ -160,8 +160,8 @@ fn merge_names<'a>(
     units: u32,
 ) -> Result<Vec<NameWords<'a>>, AllocError>
     requires few { length first.now + length second.now < 2 ^ 30 }
-    requires room { All (λ m. All (HasRoom units) m.words) (all_listed second.now) }
-    ensures { IfOk result (λ v. AreOrdered (merged units (all_listed first.now) (all_listed second.now)) (all_named v.items)) }
+    requires room { All (λ m. All (HasElementRoom units) m.words) (all_listed second.now) }
+    ensures { IfOk result (λ v. AreOrdered (merged_lists units (all_listed first.now) (all_listed second.now)) (all_named v.items)) }
 {
     let total = first.len() + second.len();
     let mut names = Vec::with_capacity(alloc, total)?;

@@ -19,8 +19,8 @@ use Rattle.index_merge.specs.Joined.{moved_element}
 use Rattle.index_merge.specs.Merged.{units_of_both, addresses_of_both}
 
 -- a moved element whose CU index still has 24 bits
-abbrev pub HasRoom : ℕ → ℕ → Type 0
-HasRoom units element = element % 2 ^ 24 + units < 2 ^ 24
+abbrev pub HasElementRoom : ℕ → ℕ → Type 0
+HasElementRoom units element = element % 2 ^ 24 + units < 2 ^ 24
 
 -- a moved unit whose offset still has 64 bits
 abbrev pub IsNear : ℕ → CuBoundary → Type 0
@@ -46,12 +46,12 @@ merged_from units n rest (m ∷ ms) =
     by_order (slice_cmp nat_cmp n.name m.name) (n ∷ rest (m ∷ ms)) (joined_name units n m ∷ rest ms) (moved_name units m ∷ merged_from units n rest ms)
 
 -- the least name first; a name of both lists once
-abbrev pub merged : ℕ → List Named → List Named → List Named
-merged units [] ms = map (moved_name units) ms
-merged units (n ∷ ns) ms = merged_from units n (merged units ns) ms
+abbrev pub merged_lists : ℕ → List Named → List Named → List Named
+merged_lists units [] ms = map (moved_name units) ms
+merged_lists units (n ∷ ns) ms = merged_from units n (merged_lists units ns) ms
 
 -- the same name, with its elements in ascending order
-pub record IsOrdered (n ordered : Named) : Type 0 where
+pub record IsOrderedName (n ordered : Named) : Type 0 where
   pub name : ordered.name ≡ n.name
   pub same : IsPermutation n.words ordered.words
   pub ascending : IsNonDecreasing ordered.words
@@ -60,15 +60,15 @@ abbrev pub AreOrdered : List Named → List Named → Type 0
 AreOrdered [] [] = Unit {0}
 AreOrdered [] (m ∷ ms) = ⊥
 AreOrdered (n ∷ ns) [] = ⊥
-AreOrdered (n ∷ ns) (m ∷ ms) = IsOrdered n m × AreOrdered ns ms
+AreOrdered (n ∷ ns) (m ∷ ms) = IsOrderedName n m × AreOrdered ns ms
 
 -- The least name of two lists is taken: what is left of them.
 pub record IsTaken (units : ℕ) (ns ms : List Named) (taken : Named) (ns_left ms_left : List Named) : Type 0 where
   pub least : Named
-  pub ordered : IsOrdered least taken
-  pub is : merged units ns ms ≡ least ∷ merged units ns_left ms_left
+  pub ordered : IsOrderedName least taken
+  pub is : merged_lists units ns ms ≡ least ∷ merged_lists units ns_left ms_left
   pub fewer : length ns_left + length ms_left < length ns + length ms
-  pub room : All (λ m. All (HasRoom units) m.words) ms → All (λ m. All (HasRoom units) m.words) ms_left
+  pub room : All (λ m. All (HasElementRoom units) m.words) ms → All (λ m. All (HasElementRoom units) m.words) ms_left
 
 -- the names of two indexes, merged
 pub record AreMergedNames (first second : List ℕ) (names : List Named) : Type 0 where
@@ -77,7 +77,7 @@ pub record AreMergedNames (first second : List ℕ) (names : List Named) : Type 
   pub listed : IsNameListOf first ns
   pub second_listed : IsNameListOf second ms
   pub few : length ns + length ms < 2 ^ 30
-  pub ordered : AreOrdered (merged (unit_count first) ns ms) names
+  pub ordered : AreOrdered (merged_lists (unit_count first) ns ms) names
 
 -- what the merged index is written from: the units of both indexes, their names, and the number of their address entries
 pub record IsScanOfBoth (first second : List ℕ) (offset : ℕ) (s : Scan) : Type 0 where
