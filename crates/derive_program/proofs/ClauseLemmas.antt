@@ -1,5 +1,5 @@
 -- The clauses of a run, each from the cause of its answer.
-use Rattle.std.proofs.Common.{◌≡◌, ◌≢◌, ℕ, ◌⊎◌, length, false, List, Option, Some, None, IfSome, is_some, Result, Ok, Err, IsTrue, refl, sym, ap, subst, ◌∙◌, inl, inr}
+use Rattle.std.proofs.Common.{◌≡◌, ◌≢◌, ℕ, ◌⊎◌, length, false, List, Option, Some, None, IfSome, Result, Ok, Err, IsTrue, refl, sym, ap, subst, ◌∙◌, inl, inr}
 use Rattle.std.proofs.lemmas.Bool.{false≢true}
 use Rattle.elf_format.specs.Span.{AreInside}
 use Rattle.sframe_format.specs.declared.fault.SframeOutcome.{SframeOutcome}
@@ -15,11 +15,11 @@ use Rattle.program_text.specs.Query.{Query}
 use Rattle.program_text.specs.Tables.{Tables, version_of}
 use Rattle.program_text.specs.Layout.{layout_of}
 use Rattle.derive_program.specs.declared.ran.Ran.{Ran}
-use Rattle.derive_program.specs.declared.ran.Ran.TheVariants.{Done, Found, Located, Absent, Shown, Refused, RefusedIndex, RefusedFrames, BadWords, BadLayout, ReadFault, FileTooLong, WriteFault, NoMemory}
+use Rattle.derive_program.specs.declared.ran.Ran.TheVariants.{Done, Found, Located, Absent, Listed, Shown, Refused, RefusedIndex, RefusedFrames, RefusedBrowse, BadWords, BadLayout, ReadFault, FileTooLong, WriteFault, NoMemory}
 use Rattle.derive_program.specs.Cause.{Reads, IsRunOf, HasCauseIn, IsReadable, IsInputFrom, IsGood, IsFaulty, IsBadLayout, IsWrongLayout, HasReport, IsRefused, IsReported, HasText, of_tables, of_query, of_demo, IsReplied, IsReplyWritten, IsAskable, IsAnswerOf, IsReplyOrNoMemory, IsReplyOrFault, IsUnwritten, IsDoneOrNoMemory, IsDoneOrFault, IsShownOrNoMemory, IsShownOrFault, IfDone, IfShown, IfRefused}
 use Rattle.derive_program.specs.Laws.{RepliesAreOne}
 use Rattle.derive_program.specs.ProgramInput.{ProgramInput, IsInputOf, texts_of_input, derived_from}
-use Rattle.derive_program.specs.Reply.{Reply, IsReply, reply_text, reply_in}
+use Rattle.derive_program.specs.Reply.{Reply, IsReply, IsReplyText, reply_in}
 use Rattle.derive_program.specs.Shown.{IsShown}
 use Rattle.derive_program.specs.Status.{may_write}
 use Rattle.derive_program.specs.Writing.{Writes, IsSilent, IsWhole}
@@ -102,11 +102,13 @@ pub silent_by : (words : List (List ℕ)) (reads : Reads) (writes : Writes) (ran
 silent_by words reads writes (Done tables) cause never = absurd (false≢true (sym never))
 silent_by words reads writes (Found answer) cause never = absurd (false≢true (sym never))
 silent_by words reads writes (Located index) cause never = absurd (false≢true (sym never))
+silent_by words reads writes (Listed count) cause never = absurd (false≢true (sym never))
 silent_by words reads writes (Shown summary tables) cause never = absurd (false≢true (sym never))
 silent_by words reads writes WriteFault cause never = absurd (false≢true (sym never))
 silent_by words reads writes Absent cause never = no_reply_text writes cause.text cause.replied.text_is cause.whole
 silent_by words reads writes (RefusedIndex fault) cause never = no_reply_text writes cause.text cause.replied.text_is cause.whole
 silent_by words reads writes (RefusedFrames fault) cause never = no_reply_text writes cause.text cause.replied.text_is cause.whole
+silent_by words reads writes (RefusedBrowse fault) cause never = no_reply_text writes cause.text cause.replied.text_is cause.whole
 silent_by words reads writes NoMemory (cause, none) never = none
 silent_by words reads writes ran (cause, silent) never = silent
 
@@ -281,9 +283,11 @@ not_some same = cc
 pub replied_by : (words : List (List ℕ)) (reads : Reads) (writes : Writes) (ran : Ran) (reply : Reply) → IsRunOf words reads writes ran → reply_in ran ≡ Some reply → IsReplyWritten reads.held words reply writes
 replied_by words reads writes (Found answer) reply cause is = reply_as reads.held words writes _ reply is cause
 replied_by words reads writes (Located index) reply cause is = reply_as reads.held words writes _ reply is cause
+replied_by words reads writes (Listed count) reply cause is = reply_as reads.held words writes _ reply is cause
 replied_by words reads writes Absent reply cause is = reply_as reads.held words writes _ reply is cause
 replied_by words reads writes (RefusedIndex fault) reply cause is = reply_as reads.held words writes _ reply is cause
 replied_by words reads writes (RefusedFrames fault) reply cause is = reply_as reads.held words writes _ reply is cause
+replied_by words reads writes (RefusedBrowse fault) reply cause is = reply_as reads.held words writes _ reply is cause
 replied_by words reads writes ran reply cause is = absurd (not_some is)
 
 -- the query of the arguments, and the bytes of its file, are those that were read
@@ -301,13 +305,13 @@ same_replied one held words good reply other text replies replied =
     let Q : List ℕ → Type 0 = λ b. IsReply good.query b other in
     one good.query good.bytes other reply (subst Q same.1 (subst P same.0 replied.replies)) replies
 
-same_reply_text : RepliesAreOne → (held : Contents) (words : List (List ℕ)) (good : IsAskable held words) (reply other : Reply) (text : Option (List ℕ)) → IsReply good.query good.bytes reply → IsReplied held words other text → reply_text good.query good.bytes reply ≡ text
+same_reply_text : RepliesAreOne → (held : Contents) (words : List (List ℕ)) (good : IsAskable held words) (reply other : Reply) (text : Option (List ℕ)) → IsReply good.query good.bytes reply → IsReplied held words other text → IsReplyText good.query good.bytes reply text
 same_reply_text one held words good reply other text replies replied =
     let same = same_asked held words good other text replied in
-    ap (λ r. reply_text good.query good.bytes r) (sym (same_replied one held words good reply other text replies replied))
-    ∙ ap (λ b. reply_text good.query b other) (sym same.1)
-    ∙ ap (λ q. reply_text q replied.bytes other) (sym same.0)
-    ∙ replied.text_is
+    let P : Query → Type 0 = λ q. IsReplyText q replied.bytes other text in
+    let Q : List ℕ → Type 0 = λ b. IsReplyText good.query b other text in
+    let R : Reply → Type 0 = λ r. IsReplyText good.query good.bytes r text in
+    subst R (same_replied one held words good reply other text replies replied) (subst Q same.1 (subst P same.0 replied.text_is))
 
 no_asked_fault : (held : Contents) (words : List (List ℕ)) (error : ReadError) (command : Request) → IsAskable held words → command_of words ≡ Ok command → IfSome held (λ files. reading_fault files command ≡ Some error) → ⊥
 no_asked_fault held words error command good said told =
@@ -329,7 +333,7 @@ reply_exact_by one words reads writes WriteFault cut good reply replies files = 
     at : (text : List ℕ) → HasText reads.held words text → IsAnswerOf good.query good.bytes reply WriteFault
     at text (of_tables index sframe outcome reported) = absurd (one_kind (command_of words) reported.read.command good.query reported.read.said good.said)
     at text (of_demo count said summary i s o has) = absurd (no_demo (command_of words) good.query count good.said said)
-    at text (of_query other replied) = inr (inl (refl, ap (λ (t : Option (List ℕ)). is_some t) (same_reply_text one reads.held words good reply other (Some text) replies replied)))
+    at text (of_query other replied) = inr (inl (refl, (text, same_reply_text one reads.held words good reply other (Some text) replies replied)))
 reply_exact_by one words reads writes NoMemory cause good reply replies files = inr (inr refl)
 reply_exact_by one words reads writes ran cause good reply replies files = inl (ap (λ r. Some r) (same_replied one reads.held words good reply _ cause.text replies cause.replied))
 

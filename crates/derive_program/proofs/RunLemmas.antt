@@ -1,5 +1,5 @@
 -- From the answer for the files that were read to the answer of the whole run.
-use Rattle.std.proofs.Common.{◌≡◌, ◌+◌, ℕ, ◌++◌, List, [], ◌∷◌, length, IfSome, Some, None, Result, Ok, Err, IsTrue, refl, sym, ap, subst, ◌∙◌, ◌⊎◌, inl, inr}
+use Rattle.std.proofs.Common.{◌≡◌, ◌+◌, ℕ, ◌++◌, List, [], ◌∷◌, length, IfSome, Some, None, Option, Result, Ok, Err, IsTrue, refl, sym, ap, subst, ◌∙◌, ◌⊎◌, inl, inr}
 use Rattle.std.proofs.Math.Seq.{take-length}
 use Rattle.sframe_format.specs.declared.fault.SframeOutcome.{SframeOutcome}
 use Rattle.elf_format.specs.declared.architecture.Architecture.{Architecture}
@@ -12,16 +12,17 @@ use Rattle.program_files.specs.Reading.{Texts, file_limit, texts_read, read_of, 
 use Rattle.program_io.specs.Contents.{Contents, file_of}
 use Rattle.program_io.specs.Counting.{Rose, RoseBy}
 use Rattle.program_text.specs.Command.{Request, command_of, for_tables, for_query, for_demo, NamesFile}
+use Rattle.program_text.specs.Find.{found_of}
 use Rattle.program_text.specs.Query.{Query, file_asked}
 use Rattle.program_text.specs.Tables.{Tables, version_of}
 use Rattle.derive_program.specs.declared.ran.Ran.{Ran}
-use Rattle.derive_program.specs.declared.ran.Ran.TheVariants.{Done, Found, Located, Absent, Shown, Refused, RefusedIndex, RefusedFrames, BadWords, BadLayout, ReadFault, FileTooLong, WriteFault, NoMemory}
+use Rattle.derive_program.specs.declared.ran.Ran.TheVariants.{Done, Found, Located, Absent, Listed, Shown, Refused, RefusedIndex, RefusedFrames, RefusedBrowse, BadWords, BadLayout, ReadFault, FileTooLong, WriteFault, NoMemory}
 use Rattle.derive_program.specs.steps.Answer.{IsInputOfFiles, IsReportOfFiles, IsAnswerFor, IsTextOfReply, IsQueryAnswer, IsTextOfDemo, IsDemoAnswer, ran_of_reading}
 use Rattle.derive_program.specs.Calls.{HasReadFor, HasReadOf, read_faults_after}
 use Rattle.derive_program.specs.Cause.{HasReport, HasText, of_tables, of_query, of_demo, IsReplyWritten, IsAttempted, IsNotWritten, Reads, IsRunOf}
 use Rattle.derive_program.specs.ProgramInput.{ProgramInput, IsInputOf}
 use Rattle.std.specs.Result.{result_err}
-use Rattle.derive_program.specs.Reply.{Reply, IsReply, reply_text}
+use Rattle.derive_program.specs.Reply.{Reply, IsReply, IsReplyText, frame_text}
 use Rattle.derive_program.specs.Writing.{Writes, IsSilent, IsWhole}
 
 -- files that a command's arguments name, as an input of the arguments
@@ -161,26 +162,28 @@ told_query held words query bytes said known text (reply, replies, is) = of_quer
 })
 
 -- a reply for the bytes of the file, as one to the arguments
-reply_to : (held : Contents) (words : List (List ℕ)) (query : Query) (bytes : List ℕ) (reply : Reply) (writes : Writes) → command_of words ≡ Ok (for_query query) → IfSome held (λ files. asked_file files query ≡ Ok bytes) → IsReply query bytes reply → IsWhole writes (reply_text query bytes reply) → IsReplyWritten held words reply writes
-reply_to held words query bytes reply writes said known replies whole = record {
-  text = reply_text query bytes reply;
+reply_to : (held : Contents) (words : List (List ℕ)) (query : Query) (bytes : List ℕ) (reply : Reply) (text : Option (List ℕ)) (writes : Writes) → command_of words ≡ Ok (for_query query) → IfSome held (λ files. asked_file files query ≡ Ok bytes) → IsReply query bytes reply → IsReplyText query bytes reply text → IsWhole writes text → IsReplyWritten held words reply writes
+reply_to held words query bytes reply text writes said known replies is whole = record {
+  text = text;
   replied = record {
     query = query;
     said = said;
     bytes = bytes;
     read = known;
     replies = replies;
-    text_is = refl;
+    text_is = is;
   };
   whole = whole;
 }
 
 run_of_query : (words : List (List ℕ)) (reads : Reads) (writes : Writes) (query : Query) (bytes : List ℕ) (ran : Ran) → command_of words ≡ Ok (for_query query) → IfSome reads.held (λ files. asked_file files query ≡ Ok bytes) → IsQueryAnswer query bytes writes ran → IsRunOf words reads writes ran
-run_of_query words reads writes query bytes (Found answer) said known (replies, whole) = reply_to reads.held words query bytes _ writes said known replies whole
-run_of_query words reads writes query bytes (Located index) said known (replies, whole) = reply_to reads.held words query bytes _ writes said known replies whole
-run_of_query words reads writes query bytes Absent said known (replies, whole) = reply_to reads.held words query bytes _ writes said known replies whole
-run_of_query words reads writes query bytes (RefusedIndex fault) said known (replies, whole) = reply_to reads.held words query bytes _ writes said known replies whole
-run_of_query words reads writes query bytes (RefusedFrames fault) said known (replies, whole) = reply_to reads.held words query bytes _ writes said known replies whole
+run_of_query words reads writes query bytes (Found answer) said known (replies, whole) = reply_to reads.held words query bytes _ (Some (found_of answer.words.items)) writes said known replies refl whole
+run_of_query words reads writes query bytes (Located index) said known (replies, whole) = reply_to reads.held words query bytes _ (frame_text query bytes index) writes said known replies refl whole
+run_of_query words reads writes query bytes Absent said known (replies, whole) = reply_to reads.held words query bytes _ None writes said known replies refl whole
+run_of_query words reads writes query bytes (Listed count) said known (replies, put) = reply_to reads.held words query bytes _ put.text writes said known replies put.is put.whole
+run_of_query words reads writes query bytes (RefusedIndex fault) said known (replies, whole) = reply_to reads.held words query bytes _ None writes said known replies refl whole
+run_of_query words reads writes query bytes (RefusedFrames fault) said known (replies, whole) = reply_to reads.held words query bytes _ None writes said known replies refl whole
+run_of_query words reads writes query bytes (RefusedBrowse fault) said known (replies, whole) = reply_to reads.held words query bytes _ None writes said known replies refl whole
 run_of_query words reads writes query bytes WriteFault said known cut = record {
   text = cut.text;
   told = told_query reads.held words query bytes said known cut.text cut.told;

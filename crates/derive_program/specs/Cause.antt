@@ -18,9 +18,9 @@ use Rattle.program_text.specs.Report.{report_of}
 use Rattle.program_files.specs.declared.error.ReadError.TheVariants.{Unread, TooLong}
 use Rattle.program_files.specs.Reading.{Texts, file_limit, read_of, reading_fault, asked_file}
 use Rattle.derive_program.specs.declared.ran.Ran.{Ran}
-use Rattle.derive_program.specs.declared.ran.Ran.TheVariants.{Done, Found, Located, Absent, Shown, Refused, RefusedIndex, RefusedFrames, BadWords, BadLayout, ReadFault, FileTooLong, WriteFault, NoMemory}
+use Rattle.derive_program.specs.declared.ran.Ran.TheVariants.{Done, Found, Located, Absent, Listed, Shown, Refused, RefusedIndex, RefusedFrames, RefusedBrowse, BadWords, BadLayout, ReadFault, FileTooLong, WriteFault, NoMemory}
 use Rattle.derive_program.specs.ProgramInput.{texts_of_input, ProgramInput, IsInputOf, derived_from, AreTablesOf, HasTables}
-use Rattle.derive_program.specs.Reply.{Reply, elements_found, function_found, nothing_found, bad_index, bad_frames, IsReply, reply_text, reply_in}
+use Rattle.derive_program.specs.Reply.{Reply, elements_found, function_found, nothing_found, names_listed, bad_index, bad_frames, bad_listing, IsReply, IsReplyText, HasReplyText, reply_in}
 use Rattle.derive_program.specs.Shown.{HasSummary, IsShown}
 use Rattle.derive_program.specs.Writing.{Writes, IsSilent, IsPutOnce, IsReportWritten, IsPrefixWritten, IsWhole}
 
@@ -84,7 +84,7 @@ pub record IsReplied (held : Contents) (words : List (List ℕ)) (reply : Reply)
   pub bytes : List ℕ
   pub read : IfSome held (λ files. asked_file files query ≡ Ok bytes)
   pub replies : IsReply query bytes reply
-  pub text_is : reply_text query bytes reply ≡ text
+  pub text_is : IsReplyText query bytes reply text
 
 -- a reply whose text was put in one call, and written whole; there was no call where it has no text
 pub record IsReplyWritten (held : Contents) (words : List (List ℕ)) (reply : Reply) (writes : Writes) : Type 0 where
@@ -170,7 +170,7 @@ pub record IsAskable (held : Contents) (words : List (List ℕ)) : Type 0 where
 
 -- the reply is answered, or its text was not written, or memory ran out
 abbrev pub IsAnswerOf : Query → List ℕ → Reply → Ran → Type 0
-IsAnswerOf query bytes reply ran = (reply_in ran ≡ Some reply) ⊎ (((ran ≡ WriteFault) × IsSome (reply_text query bytes reply)) ⊎ (ran ≡ NoMemory))
+IsAnswerOf query bytes reply ran = (reply_in ran ≡ Some reply) ⊎ (((ran ≡ WriteFault) × HasReplyText query bytes reply) ⊎ (ran ≡ NoMemory))
 
 -- a reply is answered, or memory ran out
 abbrev pub IsReplyOrNoMemory : Ran → Type 0
@@ -242,8 +242,10 @@ IsRunOf words reads writes (Found answer) = IsReplyWritten reads.held words (ele
 IsRunOf words reads writes (Located index) = IsReplyWritten reads.held words (function_found index) writes
 IsRunOf words reads writes (Shown summary tables) = IsShown words summary tables.index.items tables.sframe.items tables.outcome writes
 IsRunOf words reads writes Absent = IsReplyWritten reads.held words nothing_found writes
+IsRunOf words reads writes (Listed count) = IsReplyWritten reads.held words (names_listed count) writes
 IsRunOf words reads writes (RefusedIndex fault) = IsReplyWritten reads.held words (bad_index fault) writes
 IsRunOf words reads writes (RefusedFrames fault) = IsReplyWritten reads.held words (bad_frames fault) writes
+IsRunOf words reads writes (RefusedBrowse fault) = IsReplyWritten reads.held words (bad_listing fault) writes
 IsRunOf words reads writes (Refused error) = IsRefused (IsInputOf reads.held words) error × IsSilent writes
 IsRunOf words reads writes (BadWords index) = (command_of words ≡ Err index) × IsSilent writes
 IsRunOf words reads writes (BadLayout line) = IsBadLayout reads.held words line × IsSilent writes

@@ -31,7 +31,7 @@ pub(crate) fn look_up<'a, L: Ledger>(
 }
 
 /// Returns the elements of a CU vector.
-fn elements_of(alloc: Global, vector: &CuVector<'_>) -> Result<Vec<u32>, AllocError>
+pub(crate) fn elements_of(alloc: Global, vector: &CuVector<'_>) -> Result<Vec<u32>, AllocError>
     ensures { IfOk result (λ elements. elements.items ≡ vector.now) }
 {
     let mut elements = Vec::with_capacity(alloc, vector.len())?;

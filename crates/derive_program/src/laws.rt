@@ -5,6 +5,7 @@ ghost use Rattle.derive_program.specs.Laws.{RepliesAreOne, KnownRepliesAreOne, S
 use demo_input::demo_holds_numbered_objects;
 use derivation::built_indexes_are_one;
 use gdb_index_format::objects_are_one;
+use index_browser::{checked_has_no_fault, name_lists_are_one};
 use sframe_find::{find_causes_are_one, ordered_has_no_cause, scans_are_one};
 use sframe_order::sorted_in_one_way;
 
@@ -15,7 +16,9 @@ pub fn replies_are_one()
 {
     find_causes_are_one();
     ordered_has_no_cause();
-    scans_are_one()
+    scans_are_one();
+    checked_has_no_fault();
+    name_lists_are_one()
 }
 
 /// The input of a number has one summary, with one text, and one index and SFrame section. The number is in it three times: so many are the

@@ -5,6 +5,7 @@
 #![tactic(auto)]
 
 mod arguments;
+mod browsing;
 mod finding;
 mod laws;
 mod line;

@@ -2,6 +2,7 @@
 
 use crate::Ran;
 use derivation::DeriveError;
+use index_browser::BrowseError;
 use sframe_find::FindFault;
 use sframe_format::SframeError;
 use std::fmt;
@@ -60,6 +61,24 @@ fn write_find_fault<W: fmt::Write>(f: &mut fmt::Formatter<W>, fault: &FindFault)
     }
 }
 
+/// Writes why an index cannot be browsed, as `Misplaced 0`.
+fn write_browse_error<W: fmt::Write>(
+    f: &mut fmt::Formatter<W>,
+    error: &BrowseError,
+) -> fmt::Result {
+    match error {
+        BrowseError::Short => write!(f, "Short"),
+        BrowseError::Format(fault) => write!(f, "Format {fault:?}"),
+        BrowseError::TypeUnits => write!(f, "TypeUnits"),
+        BrowseError::UnitArea => write!(f, "UnitArea"),
+        BrowseError::AddressArea(index) => write!(f, "AddressArea {index}"),
+        BrowseError::NameOutside(slot) => write!(f, "NameOutside {slot}"),
+        BrowseError::VectorOutside(slot) => write!(f, "VectorOutside {slot}"),
+        BrowseError::BadVector(slot) => write!(f, "BadVector {slot}"),
+        BrowseError::Misplaced(slot) => write!(f, "Misplaced {slot}"),
+    }
+}
+
 impl fmt::Display for Ran {
     fn fmt<W: fmt::Write>(&self, f: &mut fmt::Formatter<W>) -> fmt::Result {
         write!(f, "derive: ")?;
@@ -67,6 +86,7 @@ impl fmt::Display for Ran {
             Ran::Done(_) => write!(f, "Done"),
             Ran::Found(_) => write!(f, "Found"),
             Ran::Located(index) => write!(f, "Located {index}"),
+            Ran::Listed(count) => write!(f, "Listed {count}"),
             Ran::Absent => write!(f, "Absent"),
             Ran::Shown(_, _) => write!(f, "Shown"),
             Ran::Refused(error) => write_error(f, error),
@@ -74,6 +94,10 @@ impl fmt::Display for Ran {
             Ran::RefusedFrames(fault) => {
                 write!(f, "RefusedFrames ")?;
                 write_find_fault(f, fault)
+            }
+            Ran::RefusedBrowse(fault) => {
+                write!(f, "RefusedBrowse ")?;
+                write_browse_error(f, fault)
             }
             Ran::BadWords(index) => write!(f, "BadWords {index}"),
             Ran::BadLayout(line) => write!(f, "BadLayout {line}"),

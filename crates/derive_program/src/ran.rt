@@ -4,6 +4,7 @@ ghost use Rattle.derive_program.specs.Status.{status_of};
 
 use derivation::DeriveError;
 use gdb_tables::BadIndex;
+use index_browser::BrowseError;
 use program_files::ReadError;
 use program_text::Summary;
 use sframe_find::FindFault;
@@ -36,6 +37,8 @@ pub enum Ran {
     Found(FindAnswer),
     /// The function of this index is the last whose address is at most the one that was asked for, and its line was written.
     Located(usize),
+    /// This many names of the index begin with the prefix, and its units, its address entries and these names were written.
+    Listed(usize),
     /// The index does not hold the name, or each function of the SFrame section is above the address.
     Absent,
     /// The tables of the input of a number were derived, and their summary was written.
@@ -46,6 +49,8 @@ pub enum Ran {
     RefusedIndex(BadIndex),
     /// The SFrame section cannot be searched.
     RefusedFrames(FindFault),
+    /// The index cannot be browsed.
+    RefusedBrowse(BrowseError),
     /// The argument at this index is wrong or missing, and none before it is: a usage error.
     BadWords(usize),
     /// This line of the layout is malformed or a second base, and none before it is.
@@ -93,8 +98,11 @@ impl Ran {
         ensures { result ≡ status_of self.now }
     {
         match self {
-            Ran::Done(_) | Ran::Found(_) | Ran::Located(_) | Ran::Shown(_, _) => 0,
-            Ran::Refused(_) | Ran::RefusedIndex(_) | Ran::RefusedFrames(_) => 1,
+            Ran::Done(_) | Ran::Found(_) | Ran::Located(_) | Ran::Listed(_) | Ran::Shown(_, _) => 0,
+            Ran::Refused(_)
+            | Ran::RefusedIndex(_)
+            | Ran::RefusedFrames(_)
+            | Ran::RefusedBrowse(_) => 1,
             Ran::BadWords(_) => 2,
             Ran::ReadFault(_) => 3,
             Ran::WriteFault => 4,

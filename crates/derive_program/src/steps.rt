@@ -16,6 +16,7 @@ ghost use Rattle.derive_program.specs.Shown.{IsShown};
 ghost use Rattle.derive_program.specs.Status.{may_write};
 ghost use Rattle.derive_program.specs.steps.Answer.{IsAnswerFor, IsWritingOf, IsQueryAnswer};
 
+use crate::browsing::browse_read;
 use crate::finding::find_read;
 use crate::laws::replies_are_one;
 use crate::locating::locate_read;
@@ -130,6 +131,7 @@ fn answer_read<S: Sink>(alloc: Global, query: &Query<'_>, bytes: &[u8], out: &mu
     match query {
         Query::Find(command) => find_read(alloc, command, bytes, out),
         Query::Frame(command) => locate_read(alloc, command, bytes, out),
+        Query::Browse(command) => browse_read(alloc, command, bytes, out),
     }
 }
 
@@ -183,7 +185,7 @@ fn answer<F: Files, S: Sink>(alloc: Global, words: &[String], files: &mut F, out
 /// bytes of the file, and puts the text of what is found into `out` in one call. For `demo` it reads no file: it makes the input of the
 /// number, derives its tables, and puts their summary into `out` in one call.
 ///
-/// An answer of a step comes only where every step before it succeeded. `out` is called by `Done`, `Found`, `Located`, `Shown` and `WriteFault`
+/// An answer of a step comes only where every step before it succeeded. `out` is called by `Done`, `Found`, `Located`, `Listed`, `Shown` and `WriteFault`
 /// alone, once, with the whole text; before `NoMemory` maybe once, and then nothing is written. After `WriteFault` a prefix of the text may
 /// be written.
 pub fn run<F: Files, S: Sink>(alloc: Global, words: &[String], files: &mut F, out: &mut S) -> Ran

@@ -7,3 +7,5 @@ pub mod Ranges
 pub mod Linked
 pub mod Starting
 pub mod Taking
+pub mod Chaining
+pub mod ChainSums

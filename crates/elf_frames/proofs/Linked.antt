@@ -1,17 +1,22 @@
 -- Frames with one more, and the links between those of one section.
-use Rattle.std.proofs.Common.{◌≡◌, ℕ, zero, suc, ◌+◌, ◌<◌, ◌≤◌, Bool, true, false, cond, List, [], ◌∷◌, ◌++◌, length, map, set, get_or, Option, Some, None, refl, sym, ap, ◌∙◌, arith, append_assoc, option_map}
+use Rattle.std.proofs.Common.{◌≡◌, ℕ, zero, suc, ◌+◌, ◌<◌, ◌≤◌, Bool, true, false, cond, List, [], ◌∷◌, ◌++◌, length, map, set, take, drop, get_or, Option, Some, None, refl, sym, ap, ◌∙◌, subst, arith, append_assoc, option_map, vec_len, vec_capacity}
 use Rattle.std.specs.Prelude.{◌==◌}
-use Rattle.std.specs.List.{AllByRecursion}
+use Rattle.std.specs.List.{sum_by, AllByRecursion}
 use Rattle.std.proofs.lemmas.Bool.Decides.{nat_tests}
-use Rattle.std.proofs.lemmas.List.{map-append}
+use Rattle.std.proofs.lemmas.List.{map-append, append-nil, drop_more, length-drop, length-map, take_all, take_more, take-map}
+use Rattle.std.proofs.lemmas.List.Sums.{sum_by-cons, sum_by_push, sum_by-take-le}
 use Rattle.std.proofs.lemmas.Option.{slice_get_read}
 use Rattle.std.specs.Option.{option_or, option_flatten}
 use Rattle.elf_format.specs.declared.index.SectionIndex.{SectionIndex}
 use Rattle.elf_format.specs.Class.{Class}
+use Rattle.elf_frames.specs.declared.frame.CieAtOffset.{CieAtOffset}
 use Rattle.elf_frames.specs.declared.frame.ExceptionFrame.{ExceptionFrame}
 use Rattle.elf_frames.specs.declared.frame.FrameIndex.{FrameIndex}
-use Rattle.elf_frames.specs.Frames.{Frame, is_for, previous_after, previous_frames, last_frame}
-use Rattle.elf_frames.specs.Shown.{shown_frame, shown_frames, shown_previous, last_in, sections_of}
+use Rattle.elf_frames.specs.declared.links.FrameLinks.{FrameLinks}
+use Rattle.elf_frames.specs.Frames.{Frame, cie_size, is_for, previous_after, previous_frames, last_frame}
+use Rattle.elf_frames.specs.Shown.{shown_cie, shown_frame, shown_frames, shown_previous, last_in, sections_of}
+use Rattle.elf_frames.specs.steps.Kept.{size_at}
+use Rattle.elf_frames.specs.steps.Links.{linked_frames, AreLinked, HasFrameRoom}
 use Rattle.elf_frames.proofs.Linking.{last_from, last_cons}
 use Rattle.elf_frames.proofs.Tiling.{all_put}
 
@@ -35,13 +40,40 @@ shown_again c [] ss e = refl
 shown_again c (g ∷ fs) [] e = absurd (omega arith)
 shown_again c (g ∷ fs) (t ∷ ss) e = ap (λ xs. shown_frame c g t ∷ xs) (shown_again c fs ss (omega arith))
 
+-- sizes
+
+shown_sizes : {A B C D E F G H I J K : Type 0} (c : Class) (fs : List (ExceptionFrame A B C D E F G H I J K)) (ss : List SectionIndex) → length ss ≡ length fs → sum_by (λ f. f.size) (shown_frames c fs ss) ≡ sum_by (λ f. f.frame_size) fs
+shown_sizes c [] ss e = refl
+shown_sizes c (g ∷ fs) [] e = absurd (omega arith)
+shown_sizes c (g ∷ fs) (t ∷ ss) e =
+    sum_by-cons (λ f. f.size) (shown_frame c g t) (shown_frames c fs ss) ∙ ap (λ n. g.frame_size + n) (shown_sizes c fs ss (omega arith)) ∙ sym (sum_by-cons (λ f. f.frame_size) g fs)
+
+-- by the sections that contracts see
+pub seen_sizes : {A B C D E F G H I J K : Type 0} (c : Class) (fs : List (ExceptionFrame A B C D E F G H I J K)) (seen : List Frame) → length fs ≡ length seen → shown_frames c fs (sections_of seen) ≡ seen → sum_by (λ f. f.frame_size) fs ≡ sum_by (λ f. f.size) seen
+seen_sizes c fs seen e h =
+    sym (shown_sizes c fs (sections_of seen) (length-map seen (λ f. record { 0 = f.section }) ∙ sym e)) ∙ ap (sum_by (λ (f : Frame). f.size)) h
+
+pub seen_total : {A B C D E F G H I J K : Type 0} (c : Class) (fs : List (ExceptionFrame A B C D E F G H I J K)) (seen : List Frame) (i n sum : ℕ) → length fs ≡ length seen → shown_frames c fs (sections_of seen) ≡ seen → length fs ≤ i → sum ≡ n + sum_by (λ f. f.frame_size) (take i fs) → sum ≡ n + sum_by (λ f. f.size) seen
+seen_total c fs seen i n sum e h past is = is ∙ ap (λ xs. n + sum_by (λ f. f.frame_size) xs) (take_all i fs past) ∙ ap (λ m. n + m) (seen_sizes c fs seen e h)
+
+pub shown_size : {A B C D E F G H I J K : Type 0} (c : Class) (fs : List (ExceptionFrame A B C D E F G H I J K)) (ss : List SectionIndex) (i : ℕ) (d : ExceptionFrame A B C D E F G H I J K) → length ss ≡ length fs → i < length fs → (get_or fs i d).frame_size ≡ size_at (shown_frames c fs ss) i
+shown_size c [] ss i d e h = absurd (omega arith)
+shown_size c (g ∷ fs) [] i d e h = absurd (omega arith)
+shown_size c (g ∷ fs) (t ∷ ss) zero d e h = refl
+shown_size c (g ∷ fs) (t ∷ ss) (suc i) d e h = shown_size c fs ss i d (omega arith) (omega arith)
+
+pub cies_fit : (cies : List CieAtOffset) (i : ℕ) (d : CieAtOffset) → i < length cies → cie_size (map shown_cie (take i cies)) + length (get_or cies i d).bytes.now ≤ cie_size (map shown_cie cies)
+cies_fit cies i d h =
+    let step : cie_size (map shown_cie (take (i + 1) cies)) ≡ cie_size (map shown_cie (take i cies)) + length (get_or cies i d).bytes.now =
+    ap (λ xs. cie_size (map shown_cie xs)) (take_more cies i d h) ∙ ap cie_size (map-append shown_cie (take i cies) (get_or cies i d ∷ [])) ∙ sum_by_push (λ cie. length cie.bytes) (map shown_cie (take i cies)) (shown_cie (get_or cies i d)) in
+    let whole : cie_size (take (i + 1) (map shown_cie cies)) ≤ cie_size (map shown_cie cies) = sum_by-take-le (λ cie. length cie.bytes) (map shown_cie cies) (i + 1) in
+    let same : cie_size (take (i + 1) (map shown_cie cies)) ≡ cie_size (map shown_cie (take (i + 1) cies)) = ap cie_size (take-map shown_cie (i + 1) cies) in
+    omega (arith, step, whole, same)
+
 -- ---- links
 
 previous_put : (before fs : List Frame) (g : Frame) → previous_after before (fs ++ g ∷ []) ≡ previous_after before fs ++ last_frame g.section (before ++ fs) ∷ []
-previous_put before [] g = ap (λ xs. last_frame g.section xs ∷ []) (sym (append-nil before)) where
-  append-nil : (xs : List Frame) → xs ++ [] ≡ xs
-  append-nil [] = refl
-  append-nil (x ∷ xs) = ap (λ ys. x ∷ ys) (append-nil xs)
+previous_put before [] g = ap (λ xs. last_frame g.section xs ∷ []) (sym (append-nil before))
 previous_put before (f ∷ fs) g =
     ap (λ xs. last_frame f.section before ∷ xs) (previous_put (before ++ f ∷ []) fs g ∙ ap (λ xs. previous_after (before ++ f ∷ []) fs ++ last_frame g.section xs ∷ []) (append_assoc before (f ∷ []) fs))
 
@@ -131,3 +163,45 @@ within_more m n (s ∷ ss) h k = (omega (arith, k.0), within_more m n ss h k.1)
 
 pub put_within : (m n : ℕ) (ss : List SectionIndex) (s : SectionIndex) → m ≤ n → s.0 < m → AllByRecursion (λ s. s.0 < m) ss → AllByRecursion (λ s. s.0 < n) (ss ++ s ∷ [])
 put_within m n ss s h less k = all_put (λ s. s.0 < n) ss s (within_more m n ss h k) (omega arith)
+
+-- ---- the frames of another, one by one
+
+module _ {A B C D E F G H I J K : Type 0} (c : Class) where
+  -- frames that are still to come, with their sections: with them the frames are those wanted
+  pub record IsPut (links : FrameLinks A B C D E F G H I J K) (frames : List (ExceptionFrame A B C D E F G H I J K)) (sections : List SectionIndex) (whole : List Frame) : Type 0 where
+    pub linked : AreLinked c links
+    pub same : length sections ≡ length frames
+    pub within : AllByRecursion (λ s. s.0 < vec_len links.last) sections
+    pub room : HasFrameRoom links (length frames) (length frames)
+    pub wanted : linked_frames c links ++ shown_frames c frames sections ≡ whole
+
+  pub put_some : (links : FrameLinks A B C D E F G H I J K) (f : ExceptionFrame A B C D E F G H I J K) (all fs : List (ExceptionFrame A B C D E F G H I J K)) (ss : List SectionIndex) (i : ℕ) (whole : List Frame) → all ≡ f ∷ fs → IsPut links all (drop i ss) whole → i < length ss
+  put_some links f all fs ss i whole e h = omega (arith, h.same, ap length e, length-drop i ss)
+
+  pub put_below : (links : FrameLinks A B C D E F G H I J K) (all : List (ExceptionFrame A B C D E F G H I J K)) (ss : List SectionIndex) (i : ℕ) (d : SectionIndex) (whole : List Frame) → i < length ss → IsPut links all (drop i ss) whole → (get_or ss i d).0 < vec_len links.last
+  put_below links all ss i d whole less h = (subst (AllByRecursion (λ s. s.0 < vec_len links.last)) (drop_more ss i d less) h.within).0
+
+  pub put_step : (before after : FrameLinks A B C D E F G H I J K) (f : ExceptionFrame A B C D E F G H I J K) (all fs : List (ExceptionFrame A B C D E F G H I J K)) (ss : List SectionIndex) (i : ℕ) (d : SectionIndex) (whole : List Frame)
+      → all ≡ f ∷ fs → IsPut before all (drop i ss) whole → i < length ss
+      → AreLinked c after → linked_frames c after ≡ linked_frames c before ++ shown_frame c f (get_or ss i d) ∷ [] → vec_len after.last ≡ vec_len before.last
+      → vec_len after.frames ≡ vec_len before.frames + 1 → vec_capacity after.frames ≡ vec_capacity before.frames → vec_len after.sections ≡ vec_len before.sections + 1 → vec_capacity after.sections ≡ vec_capacity before.sections
+      → IsPut after fs (drop (i + 1) ss) whole
+  put_step before after f all fs ss i d whole e h less linked frames last fl fc sl sc =
+      let s = get_or ss i d in
+      let step : drop i ss ≡ s ∷ drop (i + 1) ss = drop_more ss i d less in
+      let tail = (subst (AllByRecursion (λ s. s.0 < vec_len before.last)) step h.within).1 in
+      record {
+        linked = linked;
+        same = omega (arith, h.same, ap length e, ap length step);
+        within = subst (λ n. AllByRecursion (λ s. s.0 < n) (drop (i + 1) ss)) (sym last) tail;
+        room = record { frame_room = omega (arith, h.room.frame_room, ap length e, fl, fc); section_room = omega (arith, h.room.section_room, ap length e, sl, sc) };
+        wanted =
+            ap (λ xs. xs ++ shown_frames c fs (drop (i + 1) ss)) frames
+            ∙ append_assoc (linked_frames c before) (shown_frame c f s ∷ []) (shown_frames c fs (drop (i + 1) ss))
+            ∙ ap (λ xs. linked_frames c before ++ shown_frames c xs (s ∷ drop (i + 1) ss)) (sym e)
+            ∙ ap (λ xs. linked_frames c before ++ shown_frames c all xs) (sym step)
+            ∙ h.wanted;
+      }
+
+  pub put_end : (links : FrameLinks A B C D E F G H I J K) (all : List (ExceptionFrame A B C D E F G H I J K)) (ss : List SectionIndex) (whole : List Frame) → all ≡ [] → IsPut links all ss whole → linked_frames c links ≡ whole
+  put_end links all ss whole e h = sym (append-nil (linked_frames c links)) ∙ ap (λ xs. linked_frames c links ++ shown_frames c xs ss) (sym e) ∙ h.wanted

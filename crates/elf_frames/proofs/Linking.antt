@@ -19,7 +19,7 @@ first_of_pair : (b : Bool) (n : ℕ) (f : Frame) (rest : List (ℕ × Frame)) �
 first_of_pair true n f rest = refl
 first_of_pair false n f rest = refl
 
-from_cons : (section n : ℕ) (f : Frame) (fs : List Frame) → frames_from section n (f ∷ fs) ≡ cond (is_for section f) (n ∷ frames_from section (n + 1) fs) (frames_from section (n + 1) fs)
+pub from_cons : (section n : ℕ) (f : Frame) (fs : List Frame) → frames_from section n (f ∷ fs) ≡ cond (is_for section f) (n ∷ frames_from section (n + 1) fs) (frames_from section (n + 1) fs)
 from_cons section n f fs = first_of_pair (is_for section f) n f (filter (λ p. is_for section p.1) (enumerate_from (n + 1) fs))
 
 last_of_pair : (b : Bool) (n : ℕ) (f : Frame) (o : Option (ℕ × Frame)) → option_map (λ p. p.0) (option_or o (cond b (Some (n, f)) None)) ≡ option_or (option_map (λ p. p.0) o) (cond b (Some n) None)

@@ -40,7 +40,7 @@ count_more p (y ∷ ys) (suc i) x h g t =
     let later : i + 1 ≤ prefix_len p ys = count_more p ys i x both.1 g t in
     omega (arith, both.0)
 
-past : {X : Type 0} (xs : List X) (i : ℕ) → slice_get xs i ≡ None → length xs ≤ i
+pub past : {X : Type 0} (xs : List X) (i : ℕ) → slice_get xs i ≡ None → length xs ≤ i
 past [] i g = omega arith
 past (y ∷ ys) zero g = cc
 past (y ∷ ys) (suc i) g = let h : length ys ≤ i = past ys i g in omega arith

@@ -5,3 +5,4 @@ pub mod Starts
 pub mod Links
 pub mod Reached
 pub mod Kept
+pub mod Chain

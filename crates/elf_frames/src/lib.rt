@@ -3,11 +3,13 @@
 //! say which. Frames of one section are linked, from the last to the first. All is generic over the class.
 #![tactic(auto)]
 
+mod chain;
 mod eh_frames;
 mod entry;
 mod error;
 mod examples;
 mod frame;
+mod frame_sizes;
 mod laws;
 mod links;
 mod parts;
@@ -15,6 +17,7 @@ mod source;
 mod split;
 mod starts;
 
+pub use chain::FrameChain;
 pub use eh_frames::EhFrames;
 pub use entry::is_eh_frame_terminator;
 pub use error::FrameError;

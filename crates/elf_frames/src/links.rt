@@ -1,8 +1,9 @@
 //! Frames, and the links between those of one section: from each to the one before it, and from the section to its last.
 
-ghost use Rattle.std.specs.Prelude.{◌≡◌, ◌+◌, ◌<◌, ◌≤◌, ◌∷◌, ◌++◌, [], replicate, None, IfOk, OnOk, OnErr, vec_len, vec_capacity};
-ghost use Rattle.elf_frames.specs.Shown.{shown_frame};
-ghost use Rattle.elf_frames.specs.steps.Links.{linked_frames, AreLinked};
+ghost use Rattle.std.specs.Prelude.{◌≡◌, ℕ, ◌+◌, ◌<◌, ◌≤◌, ◌∷◌, ◌++◌, [], replicate, None, IfOk, OnOk, length, vec_len, vec_capacity};
+ghost use Rattle.std.specs.List.{AllByRecursion};
+ghost use Rattle.elf_frames.specs.Shown.{shown_frame, shown_frames, last_in};
+ghost use Rattle.elf_frames.specs.steps.Links.{linked_frames, AreLinked, HasFrameRoom};
 
 use crate::frame::{ExceptionFrame, FrameIndex};
 use elf_format::SectionIndex;
@@ -94,4 +95,47 @@ impl<'a, C: ElfClass> FrameLinks<'a, C> {
         self.put_reserved(section, frame);
         Ok(())
     }
+
+    /// Takes memory for the frames of another, and for the last frames of its sections. Only the room changes, also where an
+    /// allocation fails.
+    pub(crate) fn reserve_for(&mut self, other: &FrameLinks<'a, C>) -> Result<(), AllocError>
+        requires { AreLinked C.class self.old }
+        ensures linked { AreLinked C.class self.new }
+        ensures frames { linked_frames C.class self.new ≡ linked_frames C.class self.old }
+        ensures room { OnOk result (HasFrameRoom self.new (vec_len other.now.frames) (vec_len other.now.sections)) }
+        ensures last { OnOk result (vec_len other.now.last ≤ vec_len self.new.last) }
+    {
+        self.frames.reserve(other.frames.len())?;
+        self.sections.reserve(other.sections.len())?;
+        grow(&mut self.last, other.last.len())
+    }
+
+    /// Adds frames of sections, where there is room for them.
+    pub(crate) fn put_all(&mut self, frames: Vec<ExceptionFrame<'a, C>>, sections: &[SectionIndex])
+        requires linked { AreLinked C.class self.old }
+        requires sections { length sections.now ≡ length frames.items }
+        requires within { AllByRecursion (λ s. s.0 < vec_len self.old.last) sections.now }
+        requires room { HasFrameRoom self.old (length frames.items) (length frames.items) }
+        ensures linked { AreLinked C.class self.new }
+        ensures frames { linked_frames C.class self.new ≡ linked_frames C.class self.old ++ shown_frames C.class frames.entry.items sections.now }
+    {
+        let mut index = 0;
+        for frame in frames {
+            self.put_reserved(sections[index], frame);
+            index += 1;
+        }
+    }
+}
+
+/// Makes a list of last frames at least so long. What it says of each section stays, also where an allocation fails.
+fn grow(last: &mut Vec<Option<FrameIndex>>, count: usize) -> Result<(), AllocError>
+    ensures same { (section : ℕ) → last_in last.new.items section ≡ last_in last.old.items section }
+    ensures longer { vec_len last.old ≤ vec_len last.new }
+    ensures room { OnOk result (count ≤ vec_len last.new) }
+{
+    last.reserve(count.saturating_sub(last.len()))?;
+    while last.len() < count {
+        last.push(None)?;
+    }
+    Ok(())
 }

@@ -3,10 +3,11 @@ use Rattle.std.specs.Prelude.{◌≡◌, ℕ, List, [], ◌∷◌, length, codes
 use Rattle.program_text.specs.declared.command.Command.{Command}
 use Rattle.program_text.specs.declared.command.Command.TheVariants as commands
 use Rattle.program_text.specs.Arguments.{is_word}
+use Rattle.program_text.specs.Browse.{after_browse}
 use Rattle.program_text.specs.Demo.{after_demo}
 use Rattle.program_text.specs.Find.{after_find}
 use Rattle.program_text.specs.Frame.{after_frame}
-use Rattle.program_text.specs.Query.{Query, for_find, for_frame, query_of}
+use Rattle.program_text.specs.Query.{Query, for_find, for_frame, for_browse, query_of}
 use Rattle.program_text.specs.Tables.{Tables, NamesTablesFile, after_tables, tables_of}
 
 -- a command, with what it is given
@@ -27,6 +28,7 @@ command_of (command ∷ arguments) =
     if is_word command (codes "tables") then as_request for_tables (after_tables arguments)
     else if is_word command (codes "find") then as_request (λ c. for_query (for_find c)) (after_find arguments)
     else if is_word command (codes "frame") then as_request (λ c. for_query (for_frame c)) (after_frame arguments)
+    else if is_word command (codes "browse") then as_request (λ c. for_query (for_browse c)) (after_browse arguments)
     else if is_word command (codes "demo") then as_request for_demo (after_demo arguments)
     else Err 0
 

@@ -1,6 +1,7 @@
 pub mod Arguments
 pub mod Tables
 pub mod Demo
+pub mod Browse
 pub mod Find
 pub mod Frame
 pub mod Query

@@ -5,6 +5,7 @@ use Rattle.std.specs.Int.{to_be_bytes, w32}
 use Rattle.hex.specs.Hex.{encode_lower}
 use Rattle.gdb_index_format.specs.declared.unit.CuBoundary.{CuBoundary}
 use Rattle.gdb_index_format.specs.declared.name_words.NameWords.{NameWords}
+use Rattle.gdb_index_format.specs.Named.{Named, named}
 use Rattle.sframe_format.specs.declared.fault.SframeOutcome.{SframeOutcome}
 use Rattle.sframe_format.specs.declared.fault.SframeOutcome.TheVariants.{Sorted, NoDescriptors, OtherVersion}
 use Rattle.program_text.specs.Lines.{text_of}
@@ -32,8 +33,11 @@ abbrev pub word_digits : ℕ → List ℕ
 word_digits word = encode_lower (to_be_bytes w32 word)
 
 -- the line of a name with its CU vector
+abbrev pub named_line : Named → List ℕ
+named_line n = codes "name " ++ name_digits n.name ++ flat_map (λ word. codes " " ++ word_digits word) n.words
+
 abbrev pub name_line : NameWords → List ℕ
-name_line named = codes "name " ++ name_digits named.name.now ++ flat_map (λ word. codes " " ++ word_digits word) named.words.items
+name_line n = named_line (named n)
 
 -- the line of what was done to the SFrame section
 abbrev pub outcome_line : SframeOutcome → List ℕ

@@ -6,6 +6,7 @@ ghost use Rattle.program_text.specs.Arguments.{arguments_of};
 ghost use Rattle.program_text.specs.Command.{command_of, request_of, object_count};
 ghost use Rattle.program_text.specs.Tables.{object_limit};
 
+use crate::browse::read_browse;
 use crate::demo::{DemoCommand, read_demo};
 use crate::find::read_find;
 use crate::frame::read_frame;
@@ -46,6 +47,10 @@ pub fn read_command(words: &[String]) -> Result<Command<'_>, usize>
         },
         "frame" => match read_frame(rest) {
             Ok(command) => Ok(Command::Query(Query::Frame(command))),
+            Err(index) => Err(index),
+        },
+        "browse" => match read_browse(rest) {
+            Ok(command) => Ok(Command::Query(Query::Browse(command))),
             Err(index) => Err(index),
         },
         "demo" => match read_demo(rest) {

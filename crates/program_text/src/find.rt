@@ -1,11 +1,9 @@
 //! The command `find INDEX NAMEHEX`: its arguments, and the text of the CU vector that was found.
-ghost use Rattle.std.specs.Prelude.{◌≡◌, ◌↔◌, ◌%◌, length, IsTrue, IfOk, MatchResult};
-ghost use Rattle.std.specs.Result.{is_ok};
-ghost use Rattle.std.specs.List.{AllPass};
-ghost use Rattle.hex.specs.Hex.{decode_of, is_hex_digit};
+ghost use Rattle.std.specs.Prelude.{◌≡◌, IfOk, MatchResult};
 ghost use Rattle.program_text.specs.Arguments.{arguments_of};
 ghost use Rattle.program_text.specs.Find.{after_find, find_of, found_of};
 
+use crate::hexadecimal::is_hexadecimal;
 use crate::report::push_element;
 use std::alloc::{AllocError, Global};
 
@@ -19,27 +17,6 @@ pub struct FindCommand<'w> {
     pub index: &'w str,
     /// The hexadecimal digits of the name, two for each byte, the argument at index 2.
     pub name: &'w str,
-}
-
-/// Reports whether a byte is a hexadecimal digit of either case.
-fn is_digit(byte: u8) -> bool
-    ensures { result ≡ is_hex_digit byte }
-{
-    matches!(byte, b'0'..=b'9' | b'a'..=b'f' | b'A'..=b'F')
-}
-
-/// Reports whether a word is an even number of hexadecimal digits.
-fn are_pairs(word: &str) -> bool
-    ensures { IsTrue result ↔ ((length word.now % 2 ≡ 0) × AllPass is_hex_digit word.now) }
-{
-    word.len() % 2 == 0 && word.as_bytes().iter().all(|byte| is_digit(*byte))
-}
-
-/// Reports whether a word is the digits of some bytes.
-fn is_hexadecimal(word: &str) -> bool
-    ensures { result ≡ is_ok (decode_of word.now) }
-{
-    are_pairs(word)
 }
 
 /// Reads the arguments after `find`.

@@ -4,7 +4,7 @@ ghost use Rattle.std.specs.Prelude.{◌≡◌, ◌↔◌, ◌<◌, ◌^◌, ◌�
 ghost use Rattle.elf_format.specs.declared.architecture.Architecture.TheVariants.{X86_64};
 ghost use Rattle.gdb_index_format.specs.declared.version.IndexVersion.TheVariants.{V8, V9};
 ghost use Rattle.program_text.specs.Command.{command_of, for_tables, for_query, for_demo};
-ghost use Rattle.program_text.specs.Query.{for_find, for_frame};
+ghost use Rattle.program_text.specs.Query.{for_find, for_frame, for_browse};
 ghost use Rattle.program_text.specs.Tables.{version_of};
 ghost use Rattle.program_text.specs.Number.{number_of};
 ghost use Rattle.program_text.specs.Layout.{layout_of};
@@ -52,6 +52,11 @@ pub fn small_commands()
     ensures needless_zero { command_of (codes "frame" ∷ codes "s" ∷ codes "08192" ∷ codes "8242" ∷ []) ≡ Err 2 }
     ensures no_address { command_of (codes "frame" ∷ codes "s" ∷ codes "0" ∷ []) ≡ Err 3 }
     ensures negative_address { command_of (codes "frame" ∷ codes "s" ∷ codes "0" ∷ codes "-1" ∷ []) ≡ Err 3 }
+    ensures a_prefix { command_of (codes "browse" ∷ codes "i" ∷ codes "6d4A" ∷ []) ≡ Ok (for_query (for_browse (record { index = codes "i"; prefix = 109 ∷ 74 ∷ [] }))) }
+    ensures no_prefix { command_of (codes "browse" ∷ codes "i" ∷ []) ≡ Ok (for_query (for_browse (record { index = codes "i"; prefix = [] }))) }
+    ensures no_index { command_of (codes "browse" ∷ []) ≡ Err 1 }
+    ensures half_a_byte_of_prefix { command_of (codes "browse" ∷ codes "i" ∷ codes "6" ∷ []) ≡ Err 2 }
+    ensures one_after_prefix { command_of (codes "browse" ∷ codes "i" ∷ [] ∷ codes "x" ∷ []) ≡ Err 3 }
     ensures a_number { command_of (codes "demo" ∷ codes "1000" ∷ []) ≡ Ok (for_demo 1000) }
     ensures no_number { command_of (codes "demo" ∷ []) ≡ Err 1 }
     ensures zero_before_number { command_of (codes "demo" ∷ codes "01" ∷ []) ≡ Err 1 }

@@ -3,10 +3,12 @@
 //! Each has its definition in `specs/`. A text is a list of lines, and every number is decimal or lower-case hexadecimal.
 #![tactic(auto)]
 
+mod browse;
 mod command;
 mod demo;
 mod find;
 mod frame;
+mod hexadecimal;
 mod laws;
 mod layout;
 mod line;
@@ -16,6 +18,7 @@ mod query;
 mod report;
 mod tables;
 
+pub use browse::{BrowseCommand, listing_text};
 pub use command::{Command, read_command};
 pub use demo::{DemoCommand, Summary, summary_text};
 pub use find::{FindCommand, found_text};

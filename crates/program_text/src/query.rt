@@ -2,6 +2,7 @@
 ghost use Rattle.std.specs.Prelude.{◌≡◌};
 ghost use Rattle.program_text.specs.Query.{file_asked, query_of};
 
+use crate::browse::BrowseCommand;
 use crate::find::FindCommand;
 use crate::frame::FrameCommand;
 
@@ -12,6 +13,8 @@ pub enum Query<'w> {
     Find(FindCommand<'w>),
     /// The function of an address is looked up in an SFrame section.
     Frame(FrameCommand<'w>),
+    /// The units, the address entries and the names of an index are listed.
+    Browse(BrowseCommand<'w>),
 }
 
 impl<'w> Query<'w> {
@@ -22,6 +25,7 @@ impl<'w> Query<'w> {
         match self {
             Query::Find(command) => command.index,
             Query::Frame(command) => command.sframe,
+            Query::Browse(command) => command.index,
         }
     }
 }

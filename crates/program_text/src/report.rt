@@ -17,7 +17,7 @@ use std::alloc::{AllocError, Global};
 const ROW: usize = 32;
 
 /// The most digits of a number.
-const DIGITS: usize = 20;
+pub(crate) const DIGITS: usize = 20;
 
 /// The most bytes that a line of a word or two and a number takes.
 pub(crate) const LINE: usize = 20 + DIGITS;
@@ -39,7 +39,7 @@ pub(crate) fn push_fields(out: &mut Vec<u8>, words: &str, numbers: &[u64]) -> Re
 }
 
 /// Appends the line of each unit, numbered from 0.
-fn push_units(out: &mut Vec<u8>, units: &[CuBoundary]) -> Result<(), AllocError>
+pub(crate) fn push_units(out: &mut Vec<u8>, units: &[CuBoundary]) -> Result<(), AllocError>
     ensures ok { OnOk result (out.new.items ≡ out.old.items ++ text_of (unit_lines 0 units.now)) }
 {
     for (number, unit) in units.iter().enumerate() {
@@ -126,7 +126,7 @@ fn push_name(out: &mut Vec<u8>, named: &NameWords<'_>) -> Result<(), AllocError>
 }
 
 /// Appends the line of each name.
-fn push_names(out: &mut Vec<u8>, names: &[NameWords<'_>]) -> Result<(), AllocError>
+pub(crate) fn push_names(out: &mut Vec<u8>, names: &[NameWords<'_>]) -> Result<(), AllocError>
     ensures ok { OnOk result (out.new.items ≡ out.old.items ++ text_of (map name_line names.now)) }
 {
     let mut rest = names;
@@ -174,7 +174,7 @@ fn push_section(out: &mut Vec<u8>, name: &str, bytes: &[u8]) -> Result<(), Alloc
 }
 
 /// Returns how many bytes the lines of the names take.
-fn room_of_names(names: &[NameWords<'_>]) -> usize {
+pub(crate) fn room_of_names(names: &[NameWords<'_>]) -> usize {
     let mut room = 0usize;
     for named in names {
         let digits = named.name.len().saturating_mul(2);

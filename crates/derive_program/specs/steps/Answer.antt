@@ -1,6 +1,6 @@
 -- Private steps: only private contracts cite this module.
 -- What the program answers for the files that it read.
-use Rattle.std.specs.Prelude.{◌≡◌, ◌≢◌, ◌⊎◌, ℕ, List, Ok, Err, Option, Some, None}
+use Rattle.std.specs.Prelude.{◌≡◌, ◌≢◌, ◌⊎◌, ℕ, List, length, Ok, Err, Option, Some, None}
 use Rattle.elf_format.specs.declared.architecture.Architecture.{Architecture}
 use Rattle.gdb_index_format.specs.declared.version.IndexVersion.{IndexVersion}
 use Rattle.derivation.specs.declared.error.DeriveError.{DeriveError}
@@ -13,6 +13,11 @@ use Rattle.derive_program.specs.declared.ran.Ran.{Ran}
 use Rattle.derive_program.specs.declared.ran.Ran.TheVariants.{Done, Shown, Refused, BadLayout, ReadFault, FileTooLong, WriteFault, NoMemory}
 use Rattle.gdb_index_format.specs.declared.name_words.NameWords.{NameWords}
 use Rattle.gdb_index_format.specs.declared.unit.CuBoundary.{CuBoundary}
+use Rattle.gdb_index_format.specs.Named.{Named}
+use Rattle.gdb_index_format.specs.Units.{index_units}
+use Rattle.index_browser.specs.Areas.{index_addresses}
+use Rattle.index_browser.specs.NameList.{IsNameListWith}
+use Rattle.program_text.specs.Browse.{listed_text}
 use Rattle.sframe_format.specs.declared.fault.SframeOutcome.{SframeOutcome}
 use Rattle.program_text.specs.declared.demo.Summary.{Summary}
 use Rattle.program_text.specs.Demo.{shown_of}
@@ -20,7 +25,7 @@ use Rattle.program_text.specs.Query.{Query}
 use Rattle.program_text.specs.Report.{report_of}
 use Rattle.derive_program.specs.Cause.{HasReport, IsRefused, IsReported, IsCutOff, IsNotWritten}
 use Rattle.derive_program.specs.ProgramInput.{ProgramInput}
-use Rattle.derive_program.specs.Reply.{Reply, IsReply, reply_text, reply_in}
+use Rattle.derive_program.specs.Reply.{Reply, names_listed, IsReply, lookup_text, IsListing, IsReplyText, reply_in}
 use Rattle.derive_program.specs.Shown.{HasSummary}
 use Rattle.derive_program.specs.Writing.{Writes, IsSilent, IsPutOnce, IsReportWritten, IsPrefixWritten, IsWhole}
 
@@ -80,12 +85,30 @@ IsReplyWriting reply text writes ran = (reply_in ran ≡ Some reply) × IsReport
 
 -- the text of a reply of a query for the bytes of its file
 abbrev pub IsTextOfReply : Query → List ℕ → List ℕ → Type 0
-IsTextOfReply query bytes text = (reply : Reply) × IsReply query bytes reply × (reply_text query bytes reply ≡ Some text)
+IsTextOfReply query bytes text = (reply : Reply) × IsReply query bytes reply × IsReplyText query bytes reply (Some text)
+
+-- the text of what an index lists was written
+pub record IsListingWritten (query : Query) (bytes : List ℕ) (writes : Writes) : Type 0 where
+  pub text : Option (List ℕ)
+  pub is : IsListing query bytes text
+  pub whole : IsWhole writes text
+
+-- the text of a reply was written, where it has one
+abbrev pub IsTextWritten : Query → List ℕ → Writes → Reply → Type 0
+IsTextWritten query bytes writes (names_listed count) = IsListingWritten query bytes writes
+IsTextWritten query bytes writes reply = IsWhole writes (lookup_text query bytes reply)
+
+-- what an index lists, as a text, and how many of its names begin with a prefix
+pub record IsListed (bytes prefix text : List ℕ) (count : ℕ) : Type 0 where
+  pub names : List Named
+  pub list : IsNameListWith bytes prefix names
+  pub text_is : text ≡ listed_text (index_units bytes) (index_addresses bytes) names
+  pub count_is : length names ≡ count
 
 -- there is a reply of a query, and its text was written
 abbrev pub IsReplyOf : Query → List ℕ → Writes → Option Reply → Type 0
 IsReplyOf query bytes writes None = ⊥
-IsReplyOf query bytes writes (Some reply) = IsReply query bytes reply × IsWhole writes (reply_text query bytes reply)
+IsReplyOf query bytes writes (Some reply) = IsReply query bytes reply × IsTextWritten query bytes writes reply
 
 -- an answer for the bytes of the file of a query
 abbrev pub IsQueryAnswer : Query → List ℕ → Writes → Ran → Type 0
