@@ -6,7 +6,7 @@ use Rattle.index_browser.specs.declared.names.NameEntry.{NameEntry}
 use Rattle.index_browser.specs.Areas.{unit_count}
 use Rattle.index_browser.specs.Checked.{IsWellFormedIndex}
 use Rattle.index_browser.specs.NameList.{all_listed, IsNameListOf}
-use Rattle.index_merge.specs.steps.Merging.{HasElementRoom, merged_lists, IsOrderedName, AreOrdered, IsTaken}
+use Rattle.index_merge.specs.steps.Merging.{HasElementRoom, merged_lists, IsOrderedName, AreOrdered, IsNameTaken}
 use Rattle.index_merge.proofs.Taking.{HaveRoom}
 
 pub ordered_push : (ns ms : List Named) (n m : Named) → AreOrdered ns ms → IsOrderedName n m → AreOrdered (ns ++ n ∷ []) (ms ++ m ∷ [])
@@ -18,12 +18,12 @@ ordered_push (x ∷ xs) (y ∷ ys) n m all one = (all.0, ordered_push xs ys n m 
 module _ (u : ℕ) (xs ys : List NameEntry) (i j : ℕ) where
   -- the name that is taken of what is left of two lists
   abbrev pub TakenAt : Named → ℕ → ℕ → Type 0
-  TakenAt named a b = IsTaken u (all_listed (drop i xs)) (all_listed (drop j ys)) named (all_listed (drop a (drop i xs))) (all_listed (drop b (drop j ys)))
+  TakenAt named a b = IsNameTaken u (all_listed (drop i xs)) (all_listed (drop j ys)) named (all_listed (drop a (drop i xs))) (all_listed (drop b (drop j ys)))
 
-  pub taken_of_slices : (ss ts : List NameEntry) (named : Named) (a b : ℕ) → ss ≡ drop i xs → ts ≡ drop j ys → IsTaken u (all_listed ss) (all_listed ts) named (all_listed (drop a ss)) (all_listed (drop b ts)) → TakenAt named a b
+  pub taken_of_slices : (ss ts : List NameEntry) (named : Named) (a b : ℕ) → ss ≡ drop i xs → ts ≡ drop j ys → IsNameTaken u (all_listed ss) (all_listed ts) named (all_listed (drop a ss)) (all_listed (drop b ts)) → TakenAt named a b
   taken_of_slices ss ts named a b left right taken =
-      subst (λ (t : List NameEntry). IsTaken u (all_listed (drop i xs)) (all_listed t) named (all_listed (drop a (drop i xs))) (all_listed (drop b t))) right
-      (subst (λ (s : List NameEntry). IsTaken u (all_listed s) (all_listed ts) named (all_listed (drop a s)) (all_listed (drop b ts))) left taken)
+      subst (λ (t : List NameEntry). IsNameTaken u (all_listed (drop i xs)) (all_listed t) named (all_listed (drop a (drop i xs))) (all_listed (drop b t))) right
+      (subst (λ (s : List NameEntry). IsNameTaken u (all_listed s) (all_listed ts) named (all_listed (drop a s)) (all_listed (drop b ts))) left taken)
 
   further : (k n : ℕ) (zs : List NameEntry) → drop k (drop n zs) ≡ drop (n + k) zs
   further k n zs = drop-drop k n zs ∙ ap (λ m. drop m zs) (omega arith)

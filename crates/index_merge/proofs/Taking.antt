@@ -10,7 +10,7 @@ use Rattle.gdb_index_format.specs.Named.{Named}
 use Rattle.index_browser.specs.declared.names.NameEntry.{NameEntry}
 use Rattle.index_browser.specs.NameList.{listed_name, all_listed}
 use Rattle.index_merge.specs.Joined.{moved_element}
-use Rattle.index_merge.specs.steps.Merging.{HasElementRoom, moved_name, joined_name, by_order, merged_lists, IsOrderedName, IsTaken}
+use Rattle.index_merge.specs.steps.Merging.{HasElementRoom, moved_name, joined_name, by_order, merged_lists, IsOrderedName, IsNameTaken}
 use Rattle.index_merge.proofs.Pushing.{map_same, element_stays}
 
 -- a list as a pattern takes it apart
@@ -48,7 +48,7 @@ module _ (u : ℕ) where
   both_are : (ns ms : List Named) (n m : Named) (ns_left ms_left : List Named) → ns ≡ n ∷ ns_left → ms ≡ m ∷ ms_left → merged_lists u ns ms ≡ merged_lists u (n ∷ ns_left) (m ∷ ms_left)
   both_are ns ms n m ns_left ms_left left right = ap (λ xs. merged_lists u xs ms) left ∙ ap (λ xs. merged_lists u (n ∷ ns_left) xs) right
 
-  pub take_alone : (ns ms ns_left : List Named) (n named : Named) → ns ≡ n ∷ ns_left → ms ≡ [] → IsOrderedName (moved_name 0 n) named → IsTaken u ns ms named ns_left ms
+  pub take_alone : (ns ms ns_left : List Named) (n named : Named) → ns ≡ n ∷ ns_left → ms ≡ [] → IsOrderedName (moved_name 0 n) named → IsNameTaken u ns ms named ns_left ms
   take_alone ns ms ns_left n named left right is = record {
     least = n;
     ordered = stays n named is;
@@ -57,7 +57,7 @@ module _ (u : ℕ) where
     room = λ all. all;
   }
 
-  pub take_second_alone : (ns ms ms_left : List Named) (m named : Named) → ns ≡ [] → ms ≡ m ∷ ms_left → IsOrderedName (moved_name u m) named → IsTaken u ns ms named ns ms_left
+  pub take_second_alone : (ns ms ms_left : List Named) (m named : Named) → ns ≡ [] → ms ≡ m ∷ ms_left → IsOrderedName (moved_name u m) named → IsNameTaken u ns ms named ns ms_left
   take_second_alone ns ms ms_left m named left right is = record {
     least = moved_name u m;
     ordered = is;
@@ -66,7 +66,7 @@ module _ (u : ℕ) where
     room = rest_room ms ms_left m right;
   }
 
-  pub take_first : (ns ms ns_left ms_left : List Named) (n m named : Named) → ns ≡ n ∷ ns_left → ms ≡ m ∷ ms_left → slice_cmp nat_cmp n.name m.name ≡ Less → IsOrderedName (moved_name 0 n) named → IsTaken u ns ms named ns_left ms
+  pub take_first : (ns ms ns_left ms_left : List Named) (n m named : Named) → ns ≡ n ∷ ns_left → ms ≡ m ∷ ms_left → slice_cmp nat_cmp n.name m.name ≡ Less → IsOrderedName (moved_name 0 n) named → IsNameTaken u ns ms named ns_left ms
   take_first ns ms ns_left ms_left n m named left right less is = record {
     least = n;
     ordered = stays n named is;
@@ -75,7 +75,7 @@ module _ (u : ℕ) where
     room = λ all. all;
   }
 
-  pub take_both : (ns ms ns_left ms_left : List Named) (n m named : Named) → ns ≡ n ∷ ns_left → ms ≡ m ∷ ms_left → slice_cmp nat_cmp n.name m.name ≡ Equal → IsOrderedName (joined_name u n m) named → IsTaken u ns ms named ns_left ms_left
+  pub take_both : (ns ms ns_left ms_left : List Named) (n m named : Named) → ns ≡ n ∷ ns_left → ms ≡ m ∷ ms_left → slice_cmp nat_cmp n.name m.name ≡ Equal → IsOrderedName (joined_name u n m) named → IsNameTaken u ns ms named ns_left ms_left
   take_both ns ms ns_left ms_left n m named left right same is = record {
     least = joined_name u n m;
     ordered = is;
@@ -84,7 +84,7 @@ module _ (u : ℕ) where
     room = rest_room ms ms_left m right;
   }
 
-  pub take_second : (ns ms ns_left ms_left : List Named) (n m named : Named) → ns ≡ n ∷ ns_left → ms ≡ m ∷ ms_left → slice_cmp nat_cmp n.name m.name ≡ Greater → IsOrderedName (moved_name u m) named → IsTaken u ns ms named ns ms_left
+  pub take_second : (ns ms ns_left ms_left : List Named) (n m named : Named) → ns ≡ n ∷ ns_left → ms ≡ m ∷ ms_left → slice_cmp nat_cmp n.name m.name ≡ Greater → IsOrderedName (moved_name u m) named → IsNameTaken u ns ms named ns ms_left
   take_second ns ms ns_left ms_left n m named left right greater is = record {
     least = moved_name u m;
     ordered = is;

@@ -7,7 +7,7 @@ ghost use Rattle.index_browser.specs.Areas.{unit_count};
 ghost use Rattle.index_browser.specs.NameList.{listed_name, all_listed};
 ghost use Rattle.index_merge.specs.Joined.{moved_element};
 ghost use Rattle.index_merge.specs.Merged.{units_in_all};
-ghost use Rattle.index_merge.specs.steps.Merging.{HasElementRoom, moved_name, joined_name as joined_named, merged_lists, IsOrderedName, AreOrdered, IsTaken, AreMergedNames};
+ghost use Rattle.index_merge.specs.steps.Merging.{HasElementRoom, moved_name, joined_name as joined_named, merged_lists, IsOrderedName, AreOrdered, IsNameTaken, AreMergedNames};
 
 use gdb_index::CuVector;
 use gdb_index_format::NameWords;
@@ -86,7 +86,7 @@ fn take_of_both<'a>(
     requires first { 0 < length first.now }
     requires second { 0 < length second.now }
     requires room { All (λ m. All (HasElementRoom units) m.words) (all_listed second.now) }
-    ensures taken { IfOk result (λ t. IsTaken units (all_listed first.now) (all_listed second.now) (named_of t.named) (all_listed (drop t.from_first first.now)) (all_listed (drop t.from_second second.now))) }
+    ensures taken { IfOk result (λ t. IsNameTaken units (all_listed first.now) (all_listed second.now) (named_of t.named) (all_listed (drop t.from_first first.now)) (all_listed (drop t.from_second second.now))) }
     ensures within { IfOk result (λ t. (t.from_first ≤ length first.now) × (t.from_second ≤ length second.now)) }
 {
     let n = &first[0];
@@ -128,7 +128,7 @@ fn take_least<'a>(
 ) -> Result<Taken<'a>, AllocError>
     requires some { 0 < length first.now + length second.now }
     requires room { All (λ m. All (HasElementRoom units) m.words) (all_listed second.now) }
-    ensures taken { IfOk result (λ t. IsTaken units (all_listed first.now) (all_listed second.now) (named_of t.named) (all_listed (drop t.from_first first.now)) (all_listed (drop t.from_second second.now))) }
+    ensures taken { IfOk result (λ t. IsNameTaken units (all_listed first.now) (all_listed second.now) (named_of t.named) (all_listed (drop t.from_first first.now)) (all_listed (drop t.from_second second.now))) }
     ensures within { IfOk result (λ t. (t.from_first ≤ length first.now) × (t.from_second ≤ length second.now)) }
 {
     if first.is_empty() {

@@ -63,7 +63,7 @@ AreOrdered (n ∷ ns) [] = ⊥
 AreOrdered (n ∷ ns) (m ∷ ms) = IsOrderedName n m × AreOrdered ns ms
 
 -- The least name of two lists is taken: what is left of them.
-pub record IsTaken (units : ℕ) (ns ms : List Named) (taken : Named) (ns_left ms_left : List Named) : Type 0 where
+pub record IsNameTaken (units : ℕ) (ns ms : List Named) (taken : Named) (ns_left ms_left : List Named) : Type 0 where
   pub least : Named
   pub ordered : IsOrderedName least taken
   pub is : merged_lists units ns ms ≡ least ∷ merged_lists units ns_left ms_left
