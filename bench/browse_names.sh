@@ -45,10 +45,11 @@ with open(path, "wb") as file:
 END
 
 echo "an index of $names names, $(wc -c <"$work/index") bytes"
+TIMEFORMAT='%U s of the processor, %R s in all'
 for prefix in "" 37; do
   for _ in 1 2 3; do
-    start=$(date +%s%N)
-    "$program" browse "$work/index" $prefix >"$work/listed"
-    echo "browse ${prefix:-without a prefix}: $((($(date +%s%N) - start) / 1000000)) ms, $(sed -n 's/^names //p' "$work/listed") names"
+    echo "browse ${prefix:-without a prefix}"
+    time "$program" browse "$work/index" $prefix >"$work/listed"
   done
+  echo "names: $(sed -n 's/^names //p' "$work/listed")"
 done

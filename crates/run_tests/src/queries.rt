@@ -10,6 +10,25 @@ const MAIN: &str = "\
     000000000c000000000000000000000000000000080000000000000000000000\
     0000000001000000000000306d61696e00";
 
+/// The same index with its slots exchanged.
+const EXCHANGED: &str = "\
+    090000001c0000002c0000002c0000002c0000003c0000004400000000000000\
+    000000000c000000000000000800000000000000000000000000000000000000\
+    0000000001000000000000306d61696e00";
+
+/// The same index with an element of a unit that is not listed.
+const OTHER_UNIT: &str = "\
+    090000001c0000002c0000002c0000002c0000003c0000004400000000000000\
+    000000000c000000000000000000000000000000080000000000000000000000\
+    0000000001000000010000306d61696e00";
+
+/// The same index with the addresses 4096 to 4111.
+const ADDRESSED: &str = "\
+    090000001c0000002c0000002c00000040000000500000005800000000000000\
+    000000000c000000000000000010000000000000101000000000000000000000\
+    0000000000000000080000000000000000000000000000000100000000000030\
+    6d61696e00";
+
 /// The sorted contribution (SFrame 2) of two functions of 16 bytes, at 50 and 100.
 const SORTED: [u8; 74] = *b"\
     \xe2\xde\x02\x01\x03\0\xf8\0\x02\0\0\0\x02\0\0\0\x06\0\0\0\0\0\0\0\x28\0\0\0\
@@ -173,6 +192,83 @@ fn functions_of_addresses(rt: HostRuntime) -> Result<(), Fail> {
         assert_eq!(rt; said.as_str(), line);
         assert_eq!(rt; status, code);
         assert_eq!(rt; written.as_slice(), text.as_bytes());
+    }
+    Ok(())
+}
+
+#[test]
+fn lists_of_an_index(rt: HostRuntime) -> Result<(), Fail> {
+    let alloc = rt.alloc();
+    let index = hex::decode(alloc, MAIN)?;
+    let addressed = hex::decode(alloc, ADDRESSED)?;
+    let texts: [(&str, &[u8]); 3] = [("i", &index), ("a", &addressed), ("e", &[])];
+    for (words, put, line, code, text) in [
+        (
+            "browse i",
+            9,
+            "derive: Listed 1",
+            0,
+            "units 1\nunit 0 0 12\naddresses 0\nnames 1\nname 6d61696e 30000000\n",
+        ),
+        (
+            "browse a 6D61",
+            9,
+            "derive: Listed 1",
+            0,
+            "units 1\nunit 0 0 12\naddresses 1\naddress 4096 4112 0\nnames 1\nname 6d61696e 30000000\n",
+        ),
+        (
+            "browse i 6e",
+            9,
+            "derive: Listed 0",
+            0,
+            "units 1\nunit 0 0 12\naddresses 0\nnames 0\n",
+        ),
+        (
+            "browse e",
+            9,
+            "derive: Listed 0",
+            0,
+            "units 0\naddresses 0\nnames 0\n",
+        ),
+        ("browse e", 0, "derive: WriteFault", 4, "units 0\naddres"),
+        ("browse q", 9, "derive: ReadFault 1", 3, ""),
+        ("browse", 9, "derive: BadWords 1", 2, ""),
+        ("browse i 6", 9, "derive: BadWords 2", 2, ""),
+        ("browse i 6g", 9, "derive: BadWords 2", 2, ""),
+        ("browse i 6d x", 9, "derive: BadWords 3", 2, ""),
+    ] {
+        let puts = [put].to_vec(alloc)?;
+        let (said, status, written) = outcome(alloc, words, &texts, Vec::new(alloc), puts)?;
+        assert_eq!(rt; said.as_str(), line);
+        assert_eq!(rt; status, code);
+        assert_eq!(rt; written.as_slice(), text.as_bytes());
+    }
+    Ok(())
+}
+
+#[test]
+fn indexes_that_are_not_listed(rt: HostRuntime) -> Result<(), Fail> {
+    let alloc = rt.alloc();
+    let exchanged = hex::decode(alloc, EXCHANGED)?;
+    let other_unit = hex::decode(alloc, OTHER_UNIT)?;
+    let texts: [(&str, &[u8]); 4] = [
+        ("x", &exchanged),
+        ("u", &other_unit),
+        ("s", &SORTED[..20]),
+        ("o", &NO_OFFSETS),
+    ];
+    for (words, line) in [
+        ("browse x", "derive: RefusedBrowse Misplaced 0"),
+        ("browse u", "derive: RefusedBrowse BadVector 1"),
+        ("browse s", "derive: RefusedBrowse Short"),
+        ("browse o", "derive: RefusedBrowse Format Offsets"),
+    ] {
+        let none = Vec::new(alloc);
+        let (said, status, written) = outcome(alloc, words, &texts, none, Vec::new(alloc))?;
+        assert_eq!(rt; said.as_str(), line);
+        assert_eq!(rt; status, 1);
+        assert_eq!(rt; written.as_slice(), b"".as_slice());
     }
     Ok(())
 }
