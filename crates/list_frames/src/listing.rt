@@ -1,0 +1,104 @@
+//! Lists what an `.eh_frame` section holds.
+
+use elf_format::{ElfError, SectionIndex};
+use elf_frames::{EhFrames, ExceptionFrame, FrameError, split_eh_frame};
+use elf_relocs::Relocation;
+use elf_view::{AnyFile, File};
+use elf_words::ElfClass;
+use program_io::{DiskFiles, Files};
+use std::alloc::Global;
+use std::io;
+use std::rt::Env;
+
+/// How many bytes the name of a file may have.
+const NAME_LIMIT: usize = 4096;
+
+/// How many bytes a file may have.
+const FILE_LIMIT: usize = 1 << 30;
+
+/// How many bytes of an FDE stand before its field PC Begin, whose relocation is the first of the entry: the length and the
+/// CIE pointer.
+const BEFORE_BEGIN: u64 = 8;
+
+/// Returns the bytes of the file that the first argument names, or None where it is not read.
+pub(crate) fn read_file<R: Env + std::rt::Files>(rt: &R, alloc: Global) -> Option<Vec<u8>> {
+    let mut name = [0; NAME_LIMIT];
+    let length = rt.arg(1, &mut name).ok()?;
+    let name = str::from_utf8(name.get(..length)?).ok()?;
+    let mut bytes = Vec::new(alloc);
+    let mut files = DiskFiles::new(rt);
+    files.read_onto(name, &mut bytes, FILE_LIMIT).ok()?;
+    Some(bytes)
+}
+
+/// Splits the first section of this name. Every section counts as loadable. Without such a section there is no frame.
+fn split<'a, C: ElfClass>(
+    alloc: Global,
+    file: &File<'a, C>,
+) -> Result<EhFrames<'a, C>, FrameError> {
+    let Some((section, _)) = file.section_by_name(".eh_frame") else {
+        return Ok(EhFrames::new(alloc));
+    };
+    let Ok(sections) = file.parse_relocations(alloc) else {
+        return Err(FrameError::Elf(ElfError::RelocationTable));
+    };
+    let Ok(list) = file.relocations(section, &sections) else {
+        return Err(FrameError::Elf(ElfError::RelocationTable));
+    };
+    let Ok(sequence) = list.to_sequence(alloc) else {
+        return Err(FrameError::Elf(ElfError::RelocationTable));
+    };
+    let loadable = vec![in alloc; true; file.num_sections()]?;
+    split_eh_frame(alloc, file, section, &sequence, &loadable)
+}
+
+/// Returns the offset of a frame in its section: its first relocation is that of PC Begin.
+fn offset_of<C: ElfClass>(frame: &ExceptionFrame<'_, C>) -> u64 {
+    match frame.relocations.rel_iter().next() {
+        Some(relocation) => relocation.offset().saturating_sub(BEFORE_BEGIN),
+        None => 0,
+    }
+}
+
+/// Prints a line for each CIE, `cie OFFSET LENGTH`, and for each frame, `frame OFFSET LENGTH SECTION`, section by section, the
+/// last frame of a section first; then `total BYTES REST`.
+fn print<C: ElfClass, R: Print>(
+    rt: &R,
+    frames: &EhFrames<'_, C>,
+    sections: usize,
+) -> io::Result<()> {
+    for cie in frames.cies() {
+        println!(rt; "cie {} {}", cie.offset, cie.bytes.len())?;
+    }
+    for section in 0..sections {
+        for index in frames.chain(SectionIndex(section)) {
+            if let Some(frame) = frames.frames().get(index.0) {
+                let offset = offset_of(frame);
+                println!(rt; "frame {offset} {} {section}", frame.frame_size)?;
+            }
+        }
+    }
+    println!(rt; "total {} {}", frames.total_bytes(), frames.rest())
+}
+
+/// Lists the frames of a file of one class.
+fn list<C: ElfClass, R: Print>(
+    rt: &R,
+    alloc: Global,
+    file: &File<'_, C>,
+) -> Result<(), FrameError> {
+    let frames = split(alloc, file)?;
+    match print(rt, &frames, file.num_sections()) {
+        Ok(()) => Ok(()),
+        Err(_) => Err(FrameError::NoMemory),
+    }
+}
+
+/// Lists the frames of an object. The error is why the object or its section is not read.
+pub(crate) fn list_bytes<R: Print>(rt: &R, alloc: Global, bytes: &[u8]) -> Result<(), FrameError> {
+    match AnyFile::parse_bytes(bytes, false) {
+        Ok(AnyFile::Class64(file)) => list(rt, alloc, &file),
+        Ok(AnyFile::Class32(file)) => list(rt, alloc, &file),
+        Err(error) => Err(FrameError::Elf(error)),
+    }
+}
