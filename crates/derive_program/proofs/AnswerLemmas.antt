@@ -20,7 +20,7 @@ use Rattle.derive_program.specs.declared.ran.Ran.TheVariants.{Done, Shown, Refus
 use Rattle.derive_program.specs.steps.Answer.{program_input_of, IsInputOfFiles, IsReportOfFiles, IsAnswerFor, IsRefusalOf, IsWritingOf, IsReplyWriting, IsTextWritten, IsReplyOf, IsQueryAnswer, IsSummaryWriting, IsTextOfDemo, IsDemoAnswer}
 use Rattle.derive_program.specs.Cause.{HasCauseIn, HasReport, IsAttempted}
 use Rattle.derive_program.specs.ProgramInput.{ProgramInput, AreTablesOf, HasTables}
-use Rattle.derive_program.specs.Reply.{Reply, names_listed, IsReply, IsReplyText}
+use Rattle.derive_program.specs.Reply.{Reply, names_listed, index_merged, IsReply, IsReplyText}
 use Rattle.derive_program.specs.Shown.{numbered_input, summary_of, HasSummary}
 use Rattle.derive_program.specs.Writing.{Writes, IsSilent, IsPutOnce, IsReportWritten, IsWhole}
 
@@ -118,12 +118,13 @@ after_refusal machine version files layout error writes NoMemory laid cause comp
 after_refusal machine version files layout error writes ran laid cause complete exact silent never = absurd never
 
 -- the text of a reply was written, by cases on the reply
-text_written : (query : Query) (bytes : List ℕ) (reply : Reply) (text : List ℕ) (writes : Writes) → IsReplyText query bytes reply (Some text) → IsReportWritten writes text → IsTextWritten query bytes writes reply
+text_written : (query : Query) (bytes : List (List ℕ)) (reply : Reply) (text : List ℕ) (writes : Writes) → IsReplyText query bytes reply (Some text) → IsReportWritten writes text → IsTextWritten query bytes writes reply
 text_written query bytes (names_listed count) text writes is put = record { text = Some text; is = is; whole = put }
+text_written query bytes (index_merged len) text writes is put = record { text = Some text; is = is; whole = put }
 text_written query bytes reply text writes is put = let P : Option (List ℕ) → Type 0 = λ t. IsWhole writes t in subst P (sym is) put
 
 -- from the writing of a reply's text to the answer of the query
-pub after_reply : (query : Query) (bytes : List ℕ) (reply : Reply) (text : List ℕ) (writes : Writes) (ran : Ran) → IsReply query bytes reply → IsReplyText query bytes reply (Some text) → IsReplyWriting reply text writes ran → IsQueryAnswer query bytes writes ran
+pub after_reply : (query : Query) (bytes : List (List ℕ)) (reply : Reply) (text : List ℕ) (writes : Writes) (ran : Ran) → IsReply query bytes reply → IsReplyText query bytes reply (Some text) → IsReplyWriting reply text writes ran → IsQueryAnswer query bytes writes ran
 after_reply query bytes reply text writes WriteFault replies is put = record { text = text; told = (reply, replies, is); put = put }
 after_reply query bytes reply text writes NoMemory replies is (same, inl none) = record { written = same; calls = inl none }
 after_reply query bytes reply text writes NoMemory replies is (same, inr once) = record { written = same; calls = inr (record { text = text; told = (reply, replies, is); once = once }) }

@@ -7,7 +7,7 @@ use Rattle.derivation.specs.Laws.{InsideIsNoBadSpan}
 use Rattle.derivation.specs.declared.error.DeriveError.{DeriveError}
 use Rattle.derivation.specs.declared.error.DeriveError.TheVariants as errors
 use Rattle.program_files.specs.declared.error.ReadError.{ReadError}
-use Rattle.program_files.specs.Reading.{Texts, read_of, reading_fault, asked_file}
+use Rattle.program_files.specs.Reading.{Texts, read_of, reading_fault, asked_files}
 use Rattle.program_io.specs.Contents.{Contents}
 use Rattle.program_io.specs.Counting.{Rose}
 use Rattle.program_text.specs.Command.{Request, command_of, for_tables, for_query, for_demo, NamesFile}
@@ -15,7 +15,7 @@ use Rattle.program_text.specs.Query.{Query}
 use Rattle.program_text.specs.Tables.{Tables, version_of}
 use Rattle.program_text.specs.Layout.{layout_of}
 use Rattle.derive_program.specs.declared.ran.Ran.{Ran}
-use Rattle.derive_program.specs.declared.ran.Ran.TheVariants.{Done, Found, Located, Absent, Listed, Shown, Refused, RefusedIndex, RefusedFrames, RefusedBrowse, BadWords, BadLayout, ReadFault, FileTooLong, WriteFault, NoMemory}
+use Rattle.derive_program.specs.declared.ran.Ran.TheVariants.{Done, Found, Located, Absent, Listed, Merged, Shown, Refused, RefusedIndex, RefusedFrames, RefusedBrowse, RefusedMerge, BadWords, BadLayout, ReadFault, FileTooLong, WriteFault, NoMemory}
 use Rattle.derive_program.specs.Cause.{Reads, IsRunOf, HasCauseIn, IsReadable, IsInputFrom, IsGood, IsFaulty, IsBadLayout, IsWrongLayout, HasReport, IsRefused, IsReported, HasText, of_tables, of_query, of_demo, IsReplied, IsReplyWritten, IsAskable, IsAnswerOf, IsReplyOrNoMemory, IsReplyOrFault, IsUnwritten, IsDoneOrNoMemory, IsDoneOrFault, IsShownOrNoMemory, IsShownOrFault, IfDone, IfShown, IfRefused}
 use Rattle.derive_program.specs.Laws.{RepliesAreOne}
 use Rattle.derive_program.specs.ProgramInput.{ProgramInput, IsInputOf, texts_of_input, derived_from}
@@ -102,12 +102,14 @@ pub silent_by : (words : List (List ℕ)) (reads : Reads) (writes : Writes) (ran
 silent_by words reads writes (Done tables) cause never = absurd (false≢true (sym never))
 silent_by words reads writes (Found answer) cause never = absurd (false≢true (sym never))
 silent_by words reads writes (Located index) cause never = absurd (false≢true (sym never))
+silent_by words reads writes (Merged len) cause never = absurd (false≢true (sym never))
 silent_by words reads writes (Listed count) cause never = absurd (false≢true (sym never))
 silent_by words reads writes (Shown summary tables) cause never = absurd (false≢true (sym never))
 silent_by words reads writes WriteFault cause never = absurd (false≢true (sym never))
 silent_by words reads writes Absent cause never = no_reply_text writes cause.text cause.replied.text_is cause.whole
 silent_by words reads writes (RefusedIndex fault) cause never = no_reply_text writes cause.text cause.replied.text_is cause.whole
 silent_by words reads writes (RefusedFrames fault) cause never = no_reply_text writes cause.text cause.replied.text_is cause.whole
+silent_by words reads writes (RefusedMerge error) cause never = no_reply_text writes cause.text cause.replied.text_is cause.whole
 silent_by words reads writes (RefusedBrowse fault) cause never = no_reply_text writes cause.text cause.replied.text_is cause.whole
 silent_by words reads writes NoMemory (cause, none) never = none
 silent_by words reads writes ran (cause, silent) never = silent
@@ -283,10 +285,12 @@ not_some same = cc
 pub replied_by : (words : List (List ℕ)) (reads : Reads) (writes : Writes) (ran : Ran) (reply : Reply) → IsRunOf words reads writes ran → reply_in ran ≡ Some reply → IsReplyWritten reads.held words reply writes
 replied_by words reads writes (Found answer) reply cause is = reply_as reads.held words writes _ reply is cause
 replied_by words reads writes (Located index) reply cause is = reply_as reads.held words writes _ reply is cause
+replied_by words reads writes (Merged len) reply cause is = reply_as reads.held words writes _ reply is cause
 replied_by words reads writes (Listed count) reply cause is = reply_as reads.held words writes _ reply is cause
 replied_by words reads writes Absent reply cause is = reply_as reads.held words writes _ reply is cause
 replied_by words reads writes (RefusedIndex fault) reply cause is = reply_as reads.held words writes _ reply is cause
 replied_by words reads writes (RefusedFrames fault) reply cause is = reply_as reads.held words writes _ reply is cause
+replied_by words reads writes (RefusedMerge error) reply cause is = reply_as reads.held words writes _ reply is cause
 replied_by words reads writes (RefusedBrowse fault) reply cause is = reply_as reads.held words writes _ reply is cause
 replied_by words reads writes ran reply cause is = absurd (not_some is)
 
@@ -294,28 +298,28 @@ replied_by words reads writes ran reply cause is = absurd (not_some is)
 same_asked : (held : Contents) (words : List (List ℕ)) (good : IsAskable held words) (reply : Reply) (text : Option (List ℕ)) (replied : IsReplied held words reply text) → (replied.query ≡ good.query) × (replied.bytes ≡ good.bytes)
 same_asked held words good reply text replied =
     let query_is = same_query (command_of words) replied.query good.query replied.said good.said in
-    let read : asked_file good.files good.query ≡ Ok replied.bytes = ap (λ q. asked_file good.files q) (sym query_is) ∙ at_files held good.files (λ files. asked_file files replied.query ≡ Ok replied.bytes) good.known replied.read in
-    (query_is, same_ok (asked_file good.files good.query) replied.bytes good.bytes read good.read)
+    let read : asked_files good.files good.query ≡ Ok replied.bytes = ap (λ q. asked_files good.files q) (sym query_is) ∙ at_files held good.files (λ files. asked_files files replied.query ≡ Ok replied.bytes) good.known replied.read in
+    (query_is, same_ok (asked_files good.files good.query) replied.bytes good.bytes read good.read)
 
 -- it is the one reply for these bytes
 same_replied : RepliesAreOne → (held : Contents) (words : List (List ℕ)) (good : IsAskable held words) (reply other : Reply) (text : Option (List ℕ)) → IsReply good.query good.bytes reply → IsReplied held words other text → other ≡ reply
 same_replied one held words good reply other text replies replied =
     let same = same_asked held words good other text replied in
     let P : Query → Type 0 = λ q. IsReply q replied.bytes other in
-    let Q : List ℕ → Type 0 = λ b. IsReply good.query b other in
+    let Q : List (List ℕ) → Type 0 = λ b. IsReply good.query b other in
     one good.query good.bytes other reply (subst Q same.1 (subst P same.0 replied.replies)) replies
 
 same_reply_text : RepliesAreOne → (held : Contents) (words : List (List ℕ)) (good : IsAskable held words) (reply other : Reply) (text : Option (List ℕ)) → IsReply good.query good.bytes reply → IsReplied held words other text → IsReplyText good.query good.bytes reply text
 same_reply_text one held words good reply other text replies replied =
     let same = same_asked held words good other text replied in
     let P : Query → Type 0 = λ q. IsReplyText q replied.bytes other text in
-    let Q : List ℕ → Type 0 = λ b. IsReplyText good.query b other text in
+    let Q : List (List ℕ) → Type 0 = λ b. IsReplyText good.query b other text in
     let R : Reply → Type 0 = λ r. IsReplyText good.query good.bytes r text in
     subst R (same_replied one held words good reply other text replies replied) (subst Q same.1 (subst P same.0 replied.text_is))
 
 no_asked_fault : (held : Contents) (words : List (List ℕ)) (error : ReadError) (command : Request) → IsAskable held words → command_of words ≡ Ok command → IfSome held (λ files. reading_fault files command ≡ Some error) → ⊥
 no_asked_fault held words error command good said told =
-    no_fault_of (asked_file good.files good.query) good.bytes error good.read
+    no_fault_of (asked_files good.files good.query) good.bytes error good.read
     (let P : Request → Type 0 = λ c. reading_fault good.files c ≡ Some error in
     subst P (same_ok (command_of words) command (for_query good.query) said good.said) (at_files held good.files (λ files. reading_fault files command ≡ Some error) good.known told))
 

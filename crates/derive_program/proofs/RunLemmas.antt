@@ -1,5 +1,5 @@
 -- From the answer for the files that were read to the answer of the whole run.
-use Rattle.std.proofs.Common.{◌≡◌, ◌+◌, ℕ, ◌++◌, List, [], ◌∷◌, length, IfSome, Some, None, Option, Result, Ok, Err, IsTrue, refl, sym, ap, subst, ◌∙◌, ◌⊎◌, inl, inr}
+use Rattle.std.proofs.Common.{take, append_assoc, ◌≡◌, ◌+◌, ℕ, ◌++◌, List, [], ◌∷◌, length, IfSome, Some, None, Option, Result, Ok, Err, IsTrue, refl, sym, ap, subst, ◌∙◌, ◌⊎◌, inl, inr}
 use Rattle.std.proofs.Math.Seq.{take-length}
 use Rattle.sframe_format.specs.declared.fault.SframeOutcome.{SframeOutcome}
 use Rattle.elf_format.specs.declared.architecture.Architecture.{Architecture}
@@ -8,21 +8,24 @@ use Rattle.gdb_index_format.specs.declared.version.IndexVersion.{IndexVersion}
 use Rattle.program_files.specs.declared.files_read.FilesRead.{FilesRead}
 use Rattle.program_files.specs.declared.error.ReadError.{ReadError}
 use Rattle.program_files.specs.declared.error.ReadError.TheVariants as read
-use Rattle.program_files.specs.Reading.{Texts, file_limit, texts_read, read_of, reading_fault, within, asked_file, file_names}
+use Rattle.program_files.specs.Reading.{Texts, file_limit, texts_read, read_of, reading_fault, within, before, before_none, first_of, second_file, asked_files, file_names}
 use Rattle.program_io.specs.Contents.{Contents, file_of}
 use Rattle.program_io.specs.Counting.{Rose, RoseBy}
 use Rattle.program_text.specs.Command.{Request, command_of, for_tables, for_query, for_demo, NamesFile}
 use Rattle.program_text.specs.Find.{found_of}
-use Rattle.program_text.specs.Query.{Query, file_asked}
+use Rattle.program_text.specs.Merge.{Merge}
+use Rattle.program_text.specs.Query.{Query, for_merge, file_asked, second_asked, one_or_two, files_asked, query_of}
+use Rattle.program_text.specs.declared.query.Query.{Query as Asked}
+use Rattle.program_text.specs.declared.query.Query.TheVariants as queries
 use Rattle.program_text.specs.Tables.{Tables, version_of}
 use Rattle.derive_program.specs.declared.ran.Ran.{Ran}
-use Rattle.derive_program.specs.declared.ran.Ran.TheVariants.{Done, Found, Located, Absent, Listed, Shown, Refused, RefusedIndex, RefusedFrames, RefusedBrowse, BadWords, BadLayout, ReadFault, FileTooLong, WriteFault, NoMemory}
+use Rattle.derive_program.specs.declared.ran.Ran.TheVariants.{Done, Found, Located, Absent, Listed, Merged, Shown, Refused, RefusedIndex, RefusedFrames, RefusedBrowse, RefusedMerge, BadWords, BadLayout, ReadFault, FileTooLong, WriteFault, NoMemory}
 use Rattle.derive_program.specs.steps.Answer.{IsInputOfFiles, IsReportOfFiles, IsAnswerFor, IsTextOfReply, IsQueryAnswer, IsTextOfDemo, IsDemoAnswer, ran_of_reading}
 use Rattle.derive_program.specs.Calls.{HasReadFor, HasReadOf, read_faults_after}
 use Rattle.derive_program.specs.Cause.{HasReport, HasText, of_tables, of_query, of_demo, IsReplyWritten, IsAttempted, IsNotWritten, Reads, IsRunOf}
 use Rattle.derive_program.specs.ProgramInput.{ProgramInput, IsInputOf}
 use Rattle.std.specs.Result.{result_err}
-use Rattle.derive_program.specs.Reply.{Reply, IsReply, IsReplyText, frame_text}
+use Rattle.derive_program.specs.Reply.{Reply, first_in, IsReply, IsReplyText, frame_text}
 use Rattle.derive_program.specs.Writing.{Writes, IsSilent, IsWhole}
 
 -- files that a command's arguments name, as an input of the arguments
@@ -145,13 +148,23 @@ pub tables_fault : (held : Contents) (command : Tables) (error : ReadError) → 
 tables_fault None command error told = tt
 tables_fault (Some files) command error told = ap (λ (r : Result Texts ReadError). result_err r) told
 
--- what is known of a file by its name is known of the file of the query
-asked_as : (held : Contents) (query : Query) (name : List ℕ) (result : Result (List ℕ) ReadError) → name ≡ file_asked query → IfSome held (λ files. within 1 file_limit (file_of files name) ≡ result) → IfSome held (λ files. asked_file files query ≡ result)
-asked_as None query name result is told = tt
-asked_as (Some files) query name result is told = let P : List ℕ → Type 0 = λ n. within 1 file_limit (file_of files n) ≡ result in subst P is told
+-- what is known of a file by its name is known of the file of a query of one file
+asked_as : (held : Contents) (query : Query) (name bytes : List ℕ) → name ≡ file_asked query → None ≡ second_asked query → IfSome held (λ files. within 1 file_limit (file_of files name) ≡ Ok bytes) → IfSome held (λ files. asked_files files query ≡ Ok (bytes ∷ []))
+asked_as None query name bytes is alone told = tt
+asked_as (Some files) query name bytes is alone told =
+    ap (λ (o : Option (List ℕ)). first_of (within 1 file_limit (file_of files (file_asked query))) (λ b. second_file files o)) (sym alone)
+    ∙ ap (λ n. first_of (within 1 file_limit (file_of files n)) (λ b. Ok [])) (sym is)
+    ∙ ap (λ (r : Result (List ℕ) ReadError). first_of r (λ b. Ok [])) told
+
+-- the same of two files
+asked_both : (held : Contents) (command : Merge) (first second : List ℕ) → IfSome held (λ files. within 1 file_limit (file_of files command.first) ≡ Ok first) → IfSome held (λ files. within 2 file_limit (file_of files command.second) ≡ Ok second) → IfSome held (λ files. asked_files files (for_merge command) ≡ Ok (first ∷ second ∷ []))
+asked_both None command first second one two = tt
+asked_both (Some files) command first second one two =
+    ap (λ (r : Result (List ℕ) ReadError). first_of r (λ b. before_none (within 2 file_limit (file_of files command.second)))) one
+    ∙ ap (λ (r : Result (List ℕ) ReadError). before first (before_none r)) two
 
 -- the text of a reply, as the text of the arguments
-told_query : (held : Contents) (words : List (List ℕ)) (query : Query) (bytes : List ℕ) → command_of words ≡ Ok (for_query query) → IfSome held (λ files. asked_file files query ≡ Ok bytes) → (text : List ℕ) → IsTextOfReply query bytes text → HasText held words text
+told_query : (held : Contents) (words : List (List ℕ)) (query : Query) (bytes : List (List ℕ)) → command_of words ≡ Ok (for_query query) → IfSome held (λ files. asked_files files query ≡ Ok bytes) → (text : List ℕ) → IsTextOfReply query bytes text → HasText held words text
 told_query held words query bytes said known text (reply, replies, is) = of_query reply (record {
   query = query;
   said = said;
@@ -162,7 +175,7 @@ told_query held words query bytes said known text (reply, replies, is) = of_quer
 })
 
 -- a reply for the bytes of the file, as one to the arguments
-reply_to : (held : Contents) (words : List (List ℕ)) (query : Query) (bytes : List ℕ) (reply : Reply) (text : Option (List ℕ)) (writes : Writes) → command_of words ≡ Ok (for_query query) → IfSome held (λ files. asked_file files query ≡ Ok bytes) → IsReply query bytes reply → IsReplyText query bytes reply text → IsWhole writes text → IsReplyWritten held words reply writes
+reply_to : (held : Contents) (words : List (List ℕ)) (query : Query) (bytes : List (List ℕ)) (reply : Reply) (text : Option (List ℕ)) (writes : Writes) → command_of words ≡ Ok (for_query query) → IfSome held (λ files. asked_files files query ≡ Ok bytes) → IsReply query bytes reply → IsReplyText query bytes reply text → IsWhole writes text → IsReplyWritten held words reply writes
 reply_to held words query bytes reply text writes said known replies is whole = record {
   text = text;
   replied = record {
@@ -176,13 +189,15 @@ reply_to held words query bytes reply text writes said known replies is whole = 
   whole = whole;
 }
 
-run_of_query : (words : List (List ℕ)) (reads : Reads) (writes : Writes) (query : Query) (bytes : List ℕ) (ran : Ran) → command_of words ≡ Ok (for_query query) → IfSome reads.held (λ files. asked_file files query ≡ Ok bytes) → IsQueryAnswer query bytes writes ran → IsRunOf words reads writes ran
+pub run_of_query : (words : List (List ℕ)) (reads : Reads) (writes : Writes) (query : Query) (bytes : List (List ℕ)) (ran : Ran) → command_of words ≡ Ok (for_query query) → IfSome reads.held (λ files. asked_files files query ≡ Ok bytes) → IsQueryAnswer query bytes writes ran → IsRunOf words reads writes ran
 run_of_query words reads writes query bytes (Found answer) said known (replies, whole) = reply_to reads.held words query bytes _ (Some (found_of answer.words.items)) writes said known replies refl whole
-run_of_query words reads writes query bytes (Located index) said known (replies, whole) = reply_to reads.held words query bytes _ (frame_text query bytes index) writes said known replies refl whole
+run_of_query words reads writes query bytes (Located index) said known (replies, whole) = reply_to reads.held words query bytes _ (frame_text query (first_in bytes) index) writes said known replies refl whole
 run_of_query words reads writes query bytes Absent said known (replies, whole) = reply_to reads.held words query bytes _ None writes said known replies refl whole
+run_of_query words reads writes query bytes (Merged len) said known (replies, put) = reply_to reads.held words query bytes _ put.text writes said known replies put.is put.whole
 run_of_query words reads writes query bytes (Listed count) said known (replies, put) = reply_to reads.held words query bytes _ put.text writes said known replies put.is put.whole
 run_of_query words reads writes query bytes (RefusedIndex fault) said known (replies, whole) = reply_to reads.held words query bytes _ None writes said known replies refl whole
 run_of_query words reads writes query bytes (RefusedFrames fault) said known (replies, whole) = reply_to reads.held words query bytes _ None writes said known replies refl whole
+run_of_query words reads writes query bytes (RefusedMerge error) said known (replies, whole) = reply_to reads.held words query bytes _ None writes said known replies refl whole
 run_of_query words reads writes query bytes (RefusedBrowse fault) said known (replies, whole) = reply_to reads.held words query bytes _ None writes said known replies refl whole
 run_of_query words reads writes query bytes WriteFault said known cut = record {
   text = cut.text;
@@ -192,23 +207,50 @@ run_of_query words reads writes query bytes WriteFault said known cut = record {
 run_of_query words reads writes query bytes NoMemory said known none = ((for_query query, said), calls_as _ _ writes (told_query reads.held words query bytes said known) none)
 run_of_query words reads writes query bytes ran said known never = absurd never
 
-pub run_of_read : (words : List (List ℕ)) (reads : Reads) (writes : Writes) (query : Query) (name bytes given : List ℕ) (ran : Ran) → command_of words ≡ Ok (for_query query) → name ≡ file_asked query → given ≡ bytes → IfSome reads.held (λ files. within 1 file_limit (file_of files name) ≡ Ok bytes) → IsQueryAnswer query given writes ran → IsRunOf words reads writes ran
-run_of_read words reads writes query name bytes given ran said is given_is known answer =
-    let P : List ℕ → Type 0 = λ b. IsQueryAnswer query b writes ran in
-    run_of_query words reads writes query bytes ran said (asked_as reads.held query name (Ok bytes) is known) (subst P given_is answer)
+pub run_of_read : (words : List (List ℕ)) (reads : Reads) (writes : Writes) (query : Query) (name bytes given : List ℕ) (ran : Ran) → command_of words ≡ Ok (for_query query) → name ≡ file_asked query → None ≡ second_asked query → given ≡ bytes → IfSome reads.held (λ files. within 1 file_limit (file_of files name) ≡ Ok bytes) → IsQueryAnswer query (given ∷ []) writes ran → IsRunOf words reads writes ran
+run_of_read words reads writes query name bytes given ran said is alone given_is known answer =
+    let P : List ℕ → Type 0 = λ b. IsQueryAnswer query (b ∷ []) writes ran in
+    run_of_query words reads writes query (bytes ∷ []) ran said (asked_as reads.held query name bytes is alone known) (subst P given_is answer)
 
--- the file was read for an answer that comes after the reading, and no read failed
-pub after_query : (query : Query) (bytes name : List ℕ) (writes : Writes) (old new : List (List ℕ)) (ran : Ran) → name ≡ file_asked query → new ≡ old ++ name ∷ [] → IsQueryAnswer query bytes writes ran → HasReadFor (for_query query) old new ran
-after_query query bytes name writes old new ran is all cause = at ran (all ∙ ap (λ n. old ++ n ∷ []) is) cause
+pub run_of_both : (words : List (List ℕ)) (reads : Reads) (writes : Writes) (command : Merge) (first second given other : List ℕ) (ran : Ran) → command_of words ≡ Ok (for_query (for_merge command)) → given ≡ first → other ≡ second → IfSome reads.held (λ files. within 1 file_limit (file_of files command.first) ≡ Ok first) → IfSome reads.held (λ files. within 2 file_limit (file_of files command.second) ≡ Ok second) → IsQueryAnswer (for_merge command) (given ∷ other ∷ []) writes ran → IsRunOf words reads writes ran
+run_of_both words reads writes command first second given other ran said given_is other_is one two answer =
+    let P : List ℕ → Type 0 = λ b. IsQueryAnswer (for_merge command) (b ∷ other ∷ []) writes ran in
+    let Q : List ℕ → Type 0 = λ b. IsQueryAnswer (for_merge command) (first ∷ b ∷ []) writes ran in
+    run_of_query words reads writes (for_merge command) (first ∷ second ∷ []) ran said (asked_both reads.held command first second one two) (subst Q other_is (subst P given_is answer))
+
+-- the files were read for an answer that comes after the reading, and no read failed
+pub after_query : (query : Query) (bytes : List (List ℕ)) (writes : Writes) (old new : List (List ℕ)) (ran : Ran) → new ≡ old ++ files_asked query → IsQueryAnswer query bytes writes ran → HasReadFor (for_query query) old new ran
+after_query query bytes writes old new NoMemory all cause = (length (files_asked query), all ∙ ap (λ (l : List (List ℕ)). old ++ l) (sym (take-length (files_asked query))))
+after_query query bytes writes old new (BadWords k) all never = absurd never
+after_query query bytes writes old new (ReadFault k) all never = absurd never
+after_query query bytes writes old new (FileTooLong k) all never = absurd never
+after_query query bytes writes old new ran all cause = all
+
+-- the one file that was read is that of the query
+pub one_read : (query : Query) (name : List ℕ) (old new : List (List ℕ)) → name ≡ file_asked query → None ≡ second_asked query → new ≡ old ++ name ∷ [] → new ≡ old ++ files_asked query
+one_read query name old new is alone all = all ∙ ap (λ n. old ++ n ∷ []) is ∙ ap (λ (o : Option (List ℕ)). old ++ one_or_two (file_asked query) o) alone
+
+-- a query as it was read names one file
+pub one_file : (query : Asked) → None ≡ second_asked (query_of query)
+one_file (queries.Find command) = refl
+one_file (queries.Frame command) = refl
+one_file (queries.Browse command) = refl
+
+-- the files that were read for an error of reading
+pub read_to_error : (query : Query) (index : ℕ) (error : ReadError) (ran : Ran) (old new : List (List ℕ)) → ran ≡ ran_of_reading error → new ≡ old ++ take index (files_asked query) → ((k : ℕ) → error ≡ read.Unread k → k ≡ index) → ((k : ℕ) → error ≡ read.TooLong k → k ≡ index) → HasReadFor (for_query query) old new ran
+read_to_error query index error ran old new is all unread too_long =
+    let P : Ran → Type 0 = λ r. HasReadFor (for_query query) old new r in
+    subst P (sym is) (at error unread too_long)
   where
-    at : (ran : Ran) → new ≡ old ++ file_asked query ∷ [] → IsQueryAnswer query bytes writes ran → HasReadFor (for_query query) old new ran
-    at NoMemory all cause = (1, all)
-    at (BadWords k) all never = absurd never
-    at (ReadFault k) all never = absurd never
-    at (FileTooLong k) all never = absurd never
-    at ran all cause = all
+    at : (error : ReadError) → ((k : ℕ) → error ≡ read.Unread k → k ≡ index) → ((k : ℕ) → error ≡ read.TooLong k → k ≡ index) → HasReadFor (for_query query) old new (ran_of_reading error)
+    at (read.Unread k) unread too_long = all ∙ ap (λ n. old ++ take n (files_asked query)) (sym (unread k refl))
+    at (read.TooLong k) unread too_long = all ∙ ap (λ n. old ++ take n (files_asked query)) (sym (too_long k refl))
+    at read.NoMemory unread too_long = (index, all)
 
-pub counted_query : (query : Query) (bytes : List ℕ) (writes : Writes) (before now : ℕ) (ran : Ran) → now ≡ before → IsQueryAnswer query bytes writes ran → now ≡ read_faults_after ran before
+pub two_read : (old mid new : List (List ℕ)) (first second : List ℕ) → mid ≡ old ++ first ∷ [] → new ≡ mid ++ second ∷ [] → new ≡ old ++ (first ∷ second ∷ [])
+two_read old mid new first second one two = two ∙ ap (λ (l : List (List ℕ)). l ++ second ∷ []) one ∙ append_assoc old (first ∷ []) (second ∷ [])
+
+pub counted_query : (query : Query) (bytes : List (List ℕ)) (writes : Writes) (before now : ℕ) (ran : Ran) → now ≡ before → IsQueryAnswer query bytes writes ran → now ≡ read_faults_after ran before
 counted_query query bytes writes before now (ReadFault k) same never = absurd never
 counted_query query bytes writes before now ran same cause = same
 

@@ -16,11 +16,11 @@ use Rattle.program_text.specs.Tables.{Tables, version_of}
 use Rattle.program_text.specs.Layout.{LayoutEntries, layout_of}
 use Rattle.program_text.specs.Report.{report_of}
 use Rattle.program_files.specs.declared.error.ReadError.TheVariants.{Unread, TooLong}
-use Rattle.program_files.specs.Reading.{Texts, file_limit, read_of, reading_fault, asked_file}
+use Rattle.program_files.specs.Reading.{Texts, file_limit, read_of, reading_fault, asked_files}
 use Rattle.derive_program.specs.declared.ran.Ran.{Ran}
-use Rattle.derive_program.specs.declared.ran.Ran.TheVariants.{Done, Found, Located, Absent, Listed, Shown, Refused, RefusedIndex, RefusedFrames, RefusedBrowse, BadWords, BadLayout, ReadFault, FileTooLong, WriteFault, NoMemory}
+use Rattle.derive_program.specs.declared.ran.Ran.TheVariants.{Done, Found, Located, Absent, Listed, Merged, Shown, Refused, RefusedIndex, RefusedFrames, RefusedBrowse, RefusedMerge, BadWords, BadLayout, ReadFault, FileTooLong, WriteFault, NoMemory}
 use Rattle.derive_program.specs.ProgramInput.{texts_of_input, ProgramInput, IsInputOf, derived_from, AreTablesOf, HasTables}
-use Rattle.derive_program.specs.Reply.{Reply, elements_found, function_found, nothing_found, names_listed, bad_index, bad_frames, bad_listing, IsReply, IsReplyText, HasReplyText, reply_in}
+use Rattle.derive_program.specs.Reply.{Reply, elements_found, function_found, nothing_found, names_listed, index_merged, bad_index, bad_frames, bad_listing, bad_merge, IsReply, IsReplyText, HasReplyText, reply_in}
 use Rattle.derive_program.specs.Shown.{HasSummary, IsShown}
 use Rattle.derive_program.specs.Writing.{Writes, IsSilent, IsPutOnce, IsReportWritten, IsPrefixWritten, IsWhole}
 
@@ -77,12 +77,12 @@ pub record IsReported (Of : ProgramInput → Type 0) (index sframe : List ℕ) (
   pub reported : HasReport Of index sframe outcome text
   pub put : IsReportWritten writes text
 
--- The arguments are a query, its file was read, and this is the reply for its bytes, with the text that is written for it, where one is.
+-- The arguments are a query, its files were read, and this is the reply for their bytes, with the text that is written for it, where one is.
 pub record IsReplied (held : Contents) (words : List (List ℕ)) (reply : Reply) (text : Option (List ℕ)) : Type 0 where
   pub query : Query
   pub said : command_of words ≡ Ok (for_query query)
-  pub bytes : List ℕ
-  pub read : IfSome held (λ files. asked_file files query ≡ Ok bytes)
+  pub bytes : List (List ℕ)
+  pub read : IfSome held (λ files. asked_files files query ≡ Ok bytes)
   pub replies : IsReply query bytes reply
   pub text_is : IsReplyText query bytes reply text
 
@@ -159,17 +159,17 @@ pub record IsWrongLayout (held : Contents) (words : List (List ℕ)) (line : ℕ
   pub read : read_of files command ≡ Ok texts
   pub wrong : layout_of texts.layout ≡ Err line
 
--- Good arguments of a query, and a file that is known, held and within the limit.
+-- Good arguments of a query, and files that are known, held and within the limit.
 pub record IsAskable (held : Contents) (words : List (List ℕ)) : Type 0 where
   pub query : Query
   pub said : command_of words ≡ Ok (for_query query)
   pub files : List (List ℕ × List ℕ)
   pub known : held ≡ Some files
-  pub bytes : List ℕ
-  pub read : asked_file files query ≡ Ok bytes
+  pub bytes : List (List ℕ)
+  pub read : asked_files files query ≡ Ok bytes
 
 -- the reply is answered, or its text was not written, or memory ran out
-abbrev pub IsAnswerOf : Query → List ℕ → Reply → Ran → Type 0
+abbrev pub IsAnswerOf : Query → List (List ℕ) → Reply → Ran → Type 0
 IsAnswerOf query bytes reply ran = (reply_in ran ≡ Some reply) ⊎ (((ran ≡ WriteFault) × HasReplyText query bytes reply) ⊎ (ran ≡ NoMemory))
 
 -- a reply is answered, or memory ran out
@@ -242,9 +242,11 @@ IsRunOf words reads writes (Found answer) = IsReplyWritten reads.held words (ele
 IsRunOf words reads writes (Located index) = IsReplyWritten reads.held words (function_found index) writes
 IsRunOf words reads writes (Shown summary tables) = IsShown words summary tables.index.items tables.sframe.items tables.outcome writes
 IsRunOf words reads writes Absent = IsReplyWritten reads.held words nothing_found writes
+IsRunOf words reads writes (Merged len) = IsReplyWritten reads.held words (index_merged len) writes
 IsRunOf words reads writes (Listed count) = IsReplyWritten reads.held words (names_listed count) writes
 IsRunOf words reads writes (RefusedIndex fault) = IsReplyWritten reads.held words (bad_index fault) writes
 IsRunOf words reads writes (RefusedFrames fault) = IsReplyWritten reads.held words (bad_frames fault) writes
+IsRunOf words reads writes (RefusedMerge error) = IsReplyWritten reads.held words (bad_merge error) writes
 IsRunOf words reads writes (RefusedBrowse fault) = IsReplyWritten reads.held words (bad_listing fault) writes
 IsRunOf words reads writes (Refused error) = IsRefused (IsInputOf reads.held words) error × IsSilent writes
 IsRunOf words reads writes (BadWords index) = (command_of words ≡ Err index) × IsSilent writes

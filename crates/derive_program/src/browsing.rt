@@ -1,5 +1,5 @@
 //! Listing what an index holds, and writing it.
-ghost use Rattle.std.specs.Prelude.{◌≡◌, ◌≤◌, IfOk, IfSome};
+ghost use Rattle.std.specs.Prelude.{[], ◌∷◌, ◌≡◌, ◌≤◌, IfOk, IfSome};
 ghost use Rattle.gdb_index_format.specs.Named.{all_named};
 ghost use Rattle.gdb_index_format.specs.Units.{index_units};
 ghost use Rattle.index_browser.specs.Areas.{index_addresses};
@@ -116,7 +116,7 @@ pub(crate) fn browse_read<S: Sink>(
     ensures steady { S.steady out.new ≡ S.steady out.old }
     ensures faults { S.faults out.old ≤ S.faults out.new }
     ensures counted { S.faults out.new ≡ write_faults_after result (S.faults out.old) }
-    ensures answer { IsQueryAnswer (for_browse (browse_of command.now)) bytes.now (record { steady = S.steady out.old; faults = S.faults out.old; faults_now = S.faults out.new; written = S.written out.old; now = S.written out.new; puts = S.puts out.old; puts_now = S.puts out.new }) result }
+    ensures answer { IsQueryAnswer (for_browse (browse_of command.now)) (bytes.now ∷ []) (record { steady = S.steady out.old; faults = S.faults out.old; faults_now = S.faults out.new; written = S.written out.old; now = S.written out.new; puts = S.puts out.old; puts_now = S.puts out.new }) result }
 {
     let index = match check_index(bytes) {
         Ok(index) => index,

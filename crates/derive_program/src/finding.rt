@@ -1,5 +1,5 @@
 //! Looking up a name in an index, and writing its CU vector.
-ghost use Rattle.std.specs.Prelude.{◌≡◌, ◌≤◌, ◌<◌, IfOk, MatchOption};
+ghost use Rattle.std.specs.Prelude.{[], ◌∷◌, ◌≡◌, ◌≤◌, ◌<◌, IfOk, MatchOption};
 ghost use Rattle.gdb_index_format.specs.Probe.{probe};
 ghost use Rattle.program_text.specs.Find.{find_of, found_of};
 ghost use Rattle.program_text.specs.Query.{for_find};
@@ -71,7 +71,7 @@ pub(crate) fn find_read<S: Sink>(
     ensures steady { S.steady out.new ≡ S.steady out.old }
     ensures faults { S.faults out.old ≤ S.faults out.new }
     ensures counted { S.faults out.new ≡ write_faults_after result (S.faults out.old) }
-    ensures answer { IsQueryAnswer (for_find (find_of command.now)) index.now (record { steady = S.steady out.old; faults = S.faults out.old; faults_now = S.faults out.new; written = S.written out.old; now = S.written out.new; puts = S.puts out.old; puts_now = S.puts out.new }) result }
+    ensures answer { IsQueryAnswer (for_find (find_of command.now)) (index.now ∷ []) (record { steady = S.steady out.old; faults = S.faults out.old; faults_now = S.faults out.new; written = S.written out.old; now = S.written out.new; puts = S.puts out.old; puts_now = S.puts out.new }) result }
 {
     let Ok(name) = hex::decode(alloc, command.name) else {
         return Ran::NoMemory;

@@ -1,6 +1,6 @@
 //! The program: from the arguments of a command line to the text that its command writes.
 //!
-//! Arguments, files, layout, tables, writing: each step begins only where the one before it succeeded; a query of one file has a step of its own
+//! Arguments, files, layout, tables, writing: each step begins only where the one before it succeeded; a query of one file or of two has a step of its own
 //! in place of layout and tables, and `demo` makes its input. The files and the sink are handed in.
 #![tactic(auto)]
 
@@ -10,6 +10,7 @@ mod finding;
 mod laws;
 mod line;
 mod locating;
+mod merging;
 mod ran;
 mod showing;
 mod steps;

@@ -3,6 +3,7 @@
 use crate::Ran;
 use derivation::DeriveError;
 use index_browser::BrowseError;
+use index_merge::MergeError;
 use sframe_find::FindFault;
 use sframe_format::SframeError;
 use std::fmt;
@@ -79,6 +80,16 @@ fn write_browse_error<W: fmt::Write>(
     }
 }
 
+/// Writes why two indexes are not merged, as `OffsetTooLarge 1`.
+fn write_merge_error<W: fmt::Write>(f: &mut fmt::Formatter<W>, error: &MergeError) -> fmt::Result {
+    match error {
+        MergeError::OffsetTooLarge(unit) => write!(f, "OffsetTooLarge {unit}"),
+        MergeError::TooManyUnits(count) => write!(f, "TooManyUnits {count}"),
+        MergeError::IndexTooLarge(size) => write!(f, "IndexTooLarge {size}"),
+        MergeError::NoMemory => write!(f, "NoMemory"),
+    }
+}
+
 impl fmt::Display for Ran {
     fn fmt<W: fmt::Write>(&self, f: &mut fmt::Formatter<W>) -> fmt::Result {
         write!(f, "derive: ")?;
@@ -87,6 +98,7 @@ impl fmt::Display for Ran {
             Ran::Found(_) => write!(f, "Found"),
             Ran::Located(index) => write!(f, "Located {index}"),
             Ran::Listed(count) => write!(f, "Listed {count}"),
+            Ran::Merged(len) => write!(f, "Merged {len}"),
             Ran::Absent => write!(f, "Absent"),
             Ran::Shown(_, _) => write!(f, "Shown"),
             Ran::Refused(error) => write_error(f, error),
@@ -94,6 +106,10 @@ impl fmt::Display for Ran {
             Ran::RefusedFrames(fault) => {
                 write!(f, "RefusedFrames ")?;
                 write_find_fault(f, fault)
+            }
+            Ran::RefusedMerge(error) => {
+                write!(f, "RefusedMerge ")?;
+                write_merge_error(f, error)
             }
             Ran::RefusedBrowse(fault) => {
                 write!(f, "RefusedBrowse ")?;

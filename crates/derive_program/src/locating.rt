@@ -1,5 +1,5 @@
 //! Finding the function of an address in an SFrame section, and writing its line.
-ghost use Rattle.std.specs.Prelude.{◌≡◌, ◌<◌, ◌≤◌, length, Some, IfOk};
+ghost use Rattle.std.specs.Prelude.{[], ◌∷◌, ◌≡◌, ◌<◌, ◌≤◌, length, Some, IfOk};
 ghost use Rattle.sframe_find.specs.Scan.{IsScan};
 ghost use Rattle.program_text.specs.Frame.{frame_query_of};
 ghost use Rattle.program_text.specs.Query.{for_frame};
@@ -66,7 +66,7 @@ pub(crate) fn locate_read<S: Sink>(
     ensures steady { S.steady out.new ≡ S.steady out.old }
     ensures faults { S.faults out.old ≤ S.faults out.new }
     ensures counted { S.faults out.new ≡ write_faults_after result (S.faults out.old) }
-    ensures answer { IsQueryAnswer (for_frame (frame_query_of command.now)) section.now (record { steady = S.steady out.old; faults = S.faults out.old; faults_now = S.faults out.new; written = S.written out.old; now = S.written out.new; puts = S.puts out.old; puts_now = S.puts out.new }) result }
+    ensures answer { IsQueryAnswer (for_frame (frame_query_of command.now)) (section.now ∷ []) (record { steady = S.steady out.old; faults = S.faults out.old; faults_now = S.faults out.new; written = S.written out.old; now = S.written out.new; puts = S.puts out.old; puts_now = S.puts out.new }) result }
 {
     let frames = match check_sframe(section, command.base) {
         Ok(frames) => frames,

@@ -5,6 +5,7 @@ ghost use Rattle.derive_program.specs.Status.{status_of};
 use derivation::DeriveError;
 use gdb_tables::BadIndex;
 use index_browser::BrowseError;
+use index_merge::MergeError;
 use program_files::ReadError;
 use program_text::Summary;
 use sframe_find::FindFault;
@@ -41,6 +42,8 @@ pub enum Ran {
     Listed(usize),
     /// The index does not hold the name, or each function of the SFrame section is above the address.
     Absent,
+    /// The indexes were merged, and the merged index, of so many bytes, was written.
+    Merged(usize),
     /// The tables of the input of a number were derived, and their summary was written.
     Shown(Summary, Tables),
     /// The input has no tables.
@@ -51,6 +54,8 @@ pub enum Ran {
     RefusedFrames(FindFault),
     /// The index cannot be browsed.
     RefusedBrowse(BrowseError),
+    /// The indexes are not merged.
+    RefusedMerge(MergeError),
     /// The argument at this index is wrong or missing, and none before it is: a usage error.
     BadWords(usize),
     /// This line of the layout is malformed or a second base, and none before it is.
@@ -92,17 +97,36 @@ impl From<DeriveError> for Ran {
     }
 }
 
+impl From<MergeError> for Ran {
+    ghost use Rattle.derive_program.specs.steps.Answer.{IsMergeRefusal};
+
+    ghost from_gives = { λ error ran. IsMergeRefusal error ran };
+
+    fn from(error: MergeError) -> Self {
+        match error {
+            MergeError::NoMemory => Ran::NoMemory,
+            other => Ran::RefusedMerge(other),
+        }
+    }
+}
+
 impl Ran {
     /// Returns the exit status of the program.
     pub fn status(&self) -> u8
         ensures { result ≡ status_of self.now }
     {
         match self {
-            Ran::Done(_) | Ran::Found(_) | Ran::Located(_) | Ran::Listed(_) | Ran::Shown(_, _) => 0,
+            Ran::Done(_)
+            | Ran::Found(_)
+            | Ran::Located(_)
+            | Ran::Listed(_)
+            | Ran::Merged(_)
+            | Ran::Shown(_, _) => 0,
             Ran::Refused(_)
             | Ran::RefusedIndex(_)
             | Ran::RefusedFrames(_)
-            | Ran::RefusedBrowse(_) => 1,
+            | Ran::RefusedBrowse(_)
+            | Ran::RefusedMerge(_) => 1,
             Ran::BadWords(_) => 2,
             Ran::ReadFault(_) => 3,
             Ran::WriteFault => 4,

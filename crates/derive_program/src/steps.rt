@@ -1,12 +1,13 @@
 //! The steps of the program, one after another.
-ghost use Rattle.std.specs.Prelude.{◌≡◌, ◌≢◌, ◌≤◌, ◌↔◌, ◌⊎◌, ℕ, List, length, vec_len, false, Ok, Err, Some, IsTrue};
+ghost use Rattle.std.specs.Prelude.{◌≡◌, ◌∷◌, [], ◌≢◌, ◌≤◌, ◌↔◌, ◌⊎◌, ℕ, List, length, vec_len, false, Ok, Err, Some, IsTrue};
 ghost use Rattle.derivation.specs.declared.error.DeriveError.{DeriveError as DeriveError_spec};
 ghost use Rattle.derivation.specs.declared.error.DeriveError.TheVariants as DeriveError_variants;
 ghost use Rattle.program_io.specs.Counting.{Rose};
 ghost use Rattle.program_files.specs.Reading.{file_limit};
 ghost use Rattle.program_text.specs.Arguments.{arguments_of};
 ghost use Rattle.program_text.specs.Command.{command_of, for_tables, for_query, for_demo};
-ghost use Rattle.program_text.specs.Query.{query_of};
+ghost use Rattle.program_text.specs.Merge.{merge_of};
+ghost use Rattle.program_text.specs.Query.{for_merge, query_of};
 ghost use Rattle.program_text.specs.Tables.{object_limit, tables_of};
 ghost use Rattle.derive_program.specs.Cause.{IsRunOf, IsReadFault, IsFileTooLong, IsBadLayout, IsRefused, IsFaulty, IsReported, IsReplyWritten, HasText, IsCutOff, IsUnwritten, IsGood, IsAskable, IsWrongLayout, IsAnswerOf, IsReplyOrNoMemory, IsReplyOrFault, IsDoneOrNoMemory, IsDoneOrFault, IsShownOrNoMemory, IsShownOrFault, IfDone, IfShown, IfRefused};
 ghost use Rattle.derive_program.specs.Calls.{HasReadFor, HasReadOf, read_faults_after, write_faults_after};
@@ -20,6 +21,7 @@ use crate::browsing::browse_read;
 use crate::finding::find_read;
 use crate::laws::replies_are_one;
 use crate::locating::locate_read;
+use crate::merging::merge_read;
 use crate::showing::show_demo;
 use crate::{Ran, Tables};
 use derivation::{Derived, derive_tables, inside_is_no_bad_span};
@@ -28,7 +30,8 @@ use gdb_index_format::IndexVersion;
 use program_files::{FilesRead, read_files, read_named};
 use program_io::{Files, Sink, SinkFault};
 use program_text::{
-    Command, LayoutError, Query, TablesCommand, read_command, read_layout, report_text,
+    Command, LayoutError, MergeCommand, Query, TablesCommand, read_command, read_layout,
+    report_text,
 };
 use std::alloc::Global;
 
@@ -126,7 +129,7 @@ fn answer_read<S: Sink>(alloc: Global, query: &Query<'_>, bytes: &[u8], out: &mu
     ensures steady { S.steady out.new ≡ S.steady out.old }
     ensures faults { S.faults out.old ≤ S.faults out.new }
     ensures counted { S.faults out.new ≡ write_faults_after result (S.faults out.old) }
-    ensures answer { IsQueryAnswer (query_of query.now) bytes.now (record { steady = S.steady out.old; faults = S.faults out.old; faults_now = S.faults out.new; written = S.written out.old; now = S.written out.new; puts = S.puts out.old; puts_now = S.puts out.new }) result }
+    ensures answer { IsQueryAnswer (query_of query.now) (bytes.now ∷ []) (record { steady = S.steady out.old; faults = S.faults out.old; faults_now = S.faults out.new; written = S.written out.old; now = S.written out.new; puts = S.puts out.old; puts_now = S.puts out.new }) result }
 {
     match query {
         Query::Find(command) => find_read(alloc, command, bytes, out),
@@ -135,7 +138,7 @@ fn answer_read<S: Sink>(alloc: Global, query: &Query<'_>, bytes: &[u8], out: &mu
     }
 }
 
-/// All steps of a query, with the cause of each answer.
+/// All steps of a query of one file, with the cause of each answer.
 fn answer_query<F: Files, S: Sink>(
     alloc: Global,
     query: &Query<'_>,
@@ -159,6 +162,34 @@ fn answer_query<F: Files, S: Sink>(
     }
 }
 
+/// All steps of `merge`, with the cause of each answer.
+fn answer_merge<F: Files, S: Sink>(
+    alloc: Global,
+    command: &MergeCommand<'_>,
+    files: &mut F,
+    out: &mut S,
+) -> Ran
+    ensures held { F.held files.new ≡ F.held files.old }
+    ensures steady { F.steady files.new ≡ F.steady files.old }
+    ensures faults { F.faults files.old ≤ F.faults files.new }
+    ensures taken { F.taken files.old ≤ F.taken files.new }
+    ensures sink_steady { S.steady out.new ≡ S.steady out.old }
+    ensures sink_faults { S.faults out.old ≤ S.faults out.new }
+    ensures reads { HasReadFor (for_query (for_merge (merge_of command.now))) (F.reads files.old) (F.reads files.new) result }
+    ensures counted { F.faults files.new ≡ read_faults_after result (F.faults files.old) }
+    ensures sink_counted { S.faults out.new ≡ write_faults_after result (S.faults out.old) }
+    ensures cause { (words : List (List ℕ)) → command_of words ≡ Ok (for_query (for_merge (merge_of command.now))) → IsRunOf words (record { held = F.held files.old; steady = F.steady files.old; faults = F.faults files.old; faults_now = F.faults files.new; taken = F.taken files.old; taken_now = F.taken files.new }) (record { steady = S.steady out.old; faults = S.faults out.old; faults_now = S.faults out.new; written = S.written out.old; now = S.written out.new; puts = S.puts out.old; puts_now = S.puts out.new }) result }
+{
+    let first = match read_named(alloc, files, 1, command.first) {
+        Ok(bytes) => bytes,
+        Err(error) => return Ran::from(error),
+    };
+    match read_named(alloc, files, 2, command.second) {
+        Ok(second) => merge_read(alloc, command, &first, &second, out),
+        Err(error) => Ran::from(error),
+    }
+}
+
 /// All steps, with the cause of each answer.
 fn answer<F: Files, S: Sink>(alloc: Global, words: &[String], files: &mut F, out: &mut S) -> Ran
     ensures held { F.held files.new ≡ F.held files.old }
@@ -175,6 +206,7 @@ fn answer<F: Files, S: Sink>(alloc: Global, words: &[String], files: &mut F, out
     match read_command(words) {
         Ok(Command::Tables(command)) => answer_tables(alloc, &command, files, out),
         Ok(Command::Query(query)) => answer_query(alloc, &query, files, out),
+        Ok(Command::Merge(command)) => answer_merge(alloc, &command, files, out),
         Ok(Command::Demo(command)) => show_demo(alloc, command.count, out),
         Err(index) => Ran::BadWords(index),
     }
@@ -185,7 +217,7 @@ fn answer<F: Files, S: Sink>(alloc: Global, words: &[String], files: &mut F, out
 /// bytes of the file, and puts the text of what is found into `out` in one call. For `demo` it reads no file: it makes the input of the
 /// number, derives its tables, and puts their summary into `out` in one call.
 ///
-/// An answer of a step comes only where every step before it succeeded. `out` is called by `Done`, `Found`, `Located`, `Listed`, `Shown` and `WriteFault`
+/// An answer of a step comes only where every step before it succeeded. `out` is called by `Done`, `Found`, `Located`, `Listed`, `Merged`, `Shown` and `WriteFault`
 /// alone, once, with the whole text; before `NoMemory` maybe once, and then nothing is written. After `WriteFault` a prefix of the text may
 /// be written.
 pub fn run<F: Files, S: Sink>(alloc: Global, words: &[String], files: &mut F, out: &mut S) -> Ran

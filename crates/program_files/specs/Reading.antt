@@ -4,7 +4,7 @@ use Rattle.program_io.specs.Contents.{Contents, file_of}
 use Rattle.program_io.specs.Counting.{RoseBy, counted}
 use Rattle.std.specs.Result.{result_err}
 use Rattle.program_text.specs.Command.{Request, for_tables, for_query, for_demo}
-use Rattle.program_text.specs.Query.{Query, file_asked}
+use Rattle.program_text.specs.Query.{Query, file_asked, second_asked, files_asked}
 use Rattle.program_text.specs.Tables.{Tables, first_object}
 use Rattle.elf_format.specs.declared.index.Span.{Span}
 use Rattle.elf_format.specs.Span.{span_bytes}
@@ -69,6 +69,11 @@ read_of held tables =
 abbrev pub texts_read : FilesRead → Texts
 texts_read read = record { layout = read.layout.items; sframe = read.sframe.items; objects = map (span_bytes read.buffer.items) read.objects.items }
 
+-- bytes alone
+abbrev pub before_none : Result (List ℕ) ReadError → Result (List (List ℕ)) ReadError
+before_none (Ok bytes) = Ok (bytes ∷ [])
+before_none (Err error) = Err error
+
 -- a name, where there is one
 abbrev pub listed : Option (List ℕ) → List (List ℕ)
 listed None = []
@@ -85,23 +90,28 @@ files_through tables index = length (tables.layout ∷ take (index - 3) (listed 
 -- the names of the files of any command, in the order of its arguments
 abbrev pub names_of : Request → List (List ℕ)
 names_of (for_tables command) = file_names command
-names_of (for_query query) = file_asked query ∷ []
+names_of (for_query query) = files_asked query
 names_of (for_demo count) = []
 
 -- how many files the arguments up to this index name, where the argument at the index names one
 abbrev pub names_through : Request → ℕ → ℕ
 names_through (for_tables command) index = files_through command index
-names_through (for_query query) index = 1
+names_through (for_query query) index = index
 names_through (for_demo count) index = 0
 
--- the file of a query: its bytes, where it is held and no longer than a file may be
-abbrev pub asked_file : Held → Query → Result (List ℕ) ReadError
-asked_file held query = within 1 file_limit (file_of held (file_asked query))
+-- the second file, where one is named: its bytes, where it is held and no longer than a file may be
+abbrev pub second_file : Held → Option (List ℕ) → Result (List (List ℕ)) ReadError
+second_file held None = Ok []
+second_file held (Some name) = before_none (within 2 file_limit (file_of held name))
+
+-- the files of a query: their bytes, where each is held and no longer than a file may be
+abbrev pub asked_files : Held → Query → Result (List (List ℕ)) ReadError
+asked_files held query = first_of (within 1 file_limit (file_of held (file_asked query))) (λ bytes. second_file held (second_asked query))
 
 -- why the files of a command are not read, where they are known
 abbrev pub reading_fault : Held → Request → Option ReadError
 reading_fault held (for_tables command) = result_err (read_of held command)
-reading_fault held (for_query query) = result_err (asked_file held query)
+reading_fault held (for_query query) = result_err (asked_files held query)
 reading_fault held (for_demo count) = None
 
 -- the names read for a result: all of them, those up to the file that was refused, or, where memory ran out, some of the first

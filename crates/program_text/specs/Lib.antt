@@ -3,6 +3,7 @@ pub mod Tables
 pub mod Demo
 pub mod Browse
 pub mod Find
+pub mod Merge
 pub mod Frame
 pub mod Query
 pub mod Command

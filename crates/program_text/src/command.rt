@@ -10,6 +10,7 @@ use crate::browse::read_browse;
 use crate::demo::{DemoCommand, read_demo};
 use crate::find::read_find;
 use crate::frame::read_frame;
+use crate::merge::{MergeCommand, read_merge};
 use crate::query::Query;
 use crate::tables::{TablesCommand, read_tables};
 
@@ -20,6 +21,8 @@ pub enum Command<'w> {
     Tables(TablesCommand<'w>),
     /// One thing is asked of one file.
     Query(Query<'w>),
+    /// Two indexes are merged.
+    Merge(MergeCommand<'w>),
     /// The tables of a large input are derived, and a summary of them is written.
     Demo(DemoCommand),
 }
@@ -51,6 +54,10 @@ pub fn read_command(words: &[String]) -> Result<Command<'_>, usize>
         },
         "browse" => match read_browse(rest) {
             Ok(command) => Ok(Command::Query(Query::Browse(command))),
+            Err(index) => Err(index),
+        },
+        "merge" => match read_merge(rest) {
+            Ok(command) => Ok(Command::Merge(command)),
             Err(index) => Err(index),
         },
         "demo" => match read_demo(rest) {

@@ -4,7 +4,7 @@ ghost use Rattle.std.specs.Prelude.{◌≡◌, ◌↔◌, ◌<◌, ◌^◌, ◌�
 ghost use Rattle.elf_format.specs.declared.architecture.Architecture.TheVariants.{X86_64};
 ghost use Rattle.gdb_index_format.specs.declared.version.IndexVersion.TheVariants.{V8, V9};
 ghost use Rattle.program_text.specs.Command.{command_of, for_tables, for_query, for_demo};
-ghost use Rattle.program_text.specs.Query.{for_find, for_frame, for_browse};
+ghost use Rattle.program_text.specs.Query.{for_find, for_frame, for_browse, for_merge};
 ghost use Rattle.program_text.specs.Tables.{version_of};
 ghost use Rattle.program_text.specs.Number.{number_of};
 ghost use Rattle.program_text.specs.Layout.{layout_of};
@@ -57,6 +57,12 @@ pub fn small_commands()
     ensures no_index { command_of (codes "browse" ∷ []) ≡ Err 1 }
     ensures half_a_byte_of_prefix { command_of (codes "browse" ∷ codes "i" ∷ codes "6" ∷ []) ≡ Err 2 }
     ensures one_after_prefix { command_of (codes "browse" ∷ codes "i" ∷ [] ∷ codes "x" ∷ []) ≡ Err 3 }
+    ensures two_indexes { command_of (codes "merge" ∷ codes "a" ∷ codes "b" ∷ codes "12" ∷ []) ≡ Ok (for_query (for_merge (record { first = codes "a"; second = codes "b"; offset = 12 }))) }
+    ensures no_first { command_of (codes "merge" ∷ []) ≡ Err 1 }
+    ensures no_second { command_of (codes "merge" ∷ codes "a" ∷ []) ≡ Err 2 }
+    ensures no_offset { command_of (codes "merge" ∷ codes "a" ∷ codes "b" ∷ []) ≡ Err 3 }
+    ensures zero_before_offset { command_of (codes "merge" ∷ codes "a" ∷ codes "b" ∷ codes "012" ∷ []) ≡ Err 3 }
+    ensures one_after_offset { command_of (codes "merge" ∷ codes "a" ∷ codes "b" ∷ codes "12" ∷ codes "x" ∷ []) ≡ Err 4 }
     ensures a_number { command_of (codes "demo" ∷ codes "1000" ∷ []) ≡ Ok (for_demo 1000) }
     ensures no_number { command_of (codes "demo" ∷ []) ≡ Err 1 }
     ensures zero_before_number { command_of (codes "demo" ∷ codes "01" ∷ []) ≡ Err 1 }

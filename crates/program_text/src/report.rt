@@ -165,7 +165,7 @@ fn push_rows(out: &mut Vec<u8>, bytes: &[u8]) -> Result<(), AllocError>
 }
 
 /// Appends the lines of a section: its name and length, then its bytes.
-fn push_section(out: &mut Vec<u8>, name: &str, bytes: &[u8]) -> Result<(), AllocError>
+pub(crate) fn push_section(out: &mut Vec<u8>, name: &str, bytes: &[u8]) -> Result<(), AllocError>
     ensures ok { OnOk result (out.new.items ≡ out.old.items ++ text_of (section_lines name.now bytes.now)) }
 {
     push_fields(out, name, &[bytes.len() as u64])?;
@@ -188,7 +188,7 @@ pub(crate) fn room_of_names(names: &[NameWords<'_>]) -> usize {
 }
 
 /// Returns how many bytes the lines of a section's bytes take.
-fn room_of_rows(bytes: &[u8]) -> usize {
+pub(crate) fn room_of_rows(bytes: &[u8]) -> usize {
     bytes
         .len()
         .saturating_mul(2)

@@ -10,7 +10,7 @@ use Rattle.program_files.specs.declared.error.ReadError.TheVariants as read
 use Rattle.program_files.specs.declared.files_read.FilesRead.{FilesRead}
 use Rattle.program_text.specs.Layout.{LayoutEntries, layout_of}
 use Rattle.derive_program.specs.declared.ran.Ran.{Ran}
-use Rattle.derive_program.specs.declared.ran.Ran.TheVariants.{Done, Shown, Refused, BadLayout, ReadFault, FileTooLong, WriteFault, NoMemory}
+use Rattle.derive_program.specs.declared.ran.Ran.TheVariants.{Done, Shown, Refused, RefusedMerge, BadLayout, ReadFault, FileTooLong, WriteFault, NoMemory}
 use Rattle.gdb_index_format.specs.declared.name_words.NameWords.{NameWords}
 use Rattle.gdb_index_format.specs.declared.unit.CuBoundary.{CuBoundary}
 use Rattle.gdb_index_format.specs.Named.{Named}
@@ -21,11 +21,13 @@ use Rattle.program_text.specs.Browse.{listed_text}
 use Rattle.sframe_format.specs.declared.fault.SframeOutcome.{SframeOutcome}
 use Rattle.program_text.specs.declared.demo.Summary.{Summary}
 use Rattle.program_text.specs.Demo.{shown_of}
+use Rattle.index_merge.specs.declared.error.MergeError.{MergeError}
+use Rattle.index_merge.specs.declared.error.MergeError.TheVariants as merging
 use Rattle.program_text.specs.Query.{Query}
 use Rattle.program_text.specs.Report.{report_of}
 use Rattle.derive_program.specs.Cause.{HasReport, IsRefused, IsReported, IsCutOff, IsNotWritten}
 use Rattle.derive_program.specs.ProgramInput.{ProgramInput}
-use Rattle.derive_program.specs.Reply.{Reply, names_listed, IsReply, lookup_text, IsListing, IsReplyText, reply_in}
+use Rattle.derive_program.specs.Reply.{Reply, names_listed, index_merged, IsReply, lookup_text, IsListing, IsMergedText, IsReplyText, reply_in}
 use Rattle.derive_program.specs.Shown.{HasSummary}
 use Rattle.derive_program.specs.Writing.{Writes, IsSilent, IsPutOnce, IsReportWritten, IsPrefixWritten, IsWhole}
 
@@ -45,6 +47,12 @@ abbrev pub IsRefusalOf : DeriveError → Ran → Type 0
 IsRefusalOf error (Refused answered) = (answered ≡ error) × (error ≢ errors.NoMemory)
 IsRefusalOf error NoMemory = error ≡ errors.NoMemory
 IsRefusalOf error ran = ⊥
+
+-- an error of merging is answered as it is, but for out of memory
+abbrev pub IsMergeRefusal : MergeError → Ran → Type 0
+IsMergeRefusal error (RefusedMerge answered) = (answered ≡ error) × (error ≢ merging.NoMemory)
+IsMergeRefusal error NoMemory = error ≡ merging.NoMemory
+IsMergeRefusal error ran = ⊥
 
 -- the answer for an error of reading
 abbrev pub ran_of_reading : ReadError → Ran
@@ -84,18 +92,25 @@ IsReplyWriting reply text writes NoMemory = IsShortOfMemory text writes
 IsReplyWriting reply text writes ran = (reply_in ran ≡ Some reply) × IsReportWritten writes text
 
 -- the text of a reply of a query for the bytes of its file
-abbrev pub IsTextOfReply : Query → List ℕ → List ℕ → Type 0
+abbrev pub IsTextOfReply : Query → List (List ℕ) → List ℕ → Type 0
 IsTextOfReply query bytes text = (reply : Reply) × IsReply query bytes reply × IsReplyText query bytes reply (Some text)
 
 -- the text of what an index lists was written
-pub record IsListingWritten (query : Query) (bytes : List ℕ) (writes : Writes) : Type 0 where
+pub record IsListingWritten (query : Query) (bytes : List (List ℕ)) (writes : Writes) : Type 0 where
   pub text : Option (List ℕ)
   pub is : IsListing query bytes text
   pub whole : IsWhole writes text
 
+-- the text of a merged index was written
+pub record IsMergedWritten (query : Query) (bytes : List (List ℕ)) (writes : Writes) : Type 0 where
+  pub text : Option (List ℕ)
+  pub is : IsMergedText query bytes text
+  pub whole : IsWhole writes text
+
 -- the text of a reply was written, where it has one
-abbrev pub IsTextWritten : Query → List ℕ → Writes → Reply → Type 0
+abbrev pub IsTextWritten : Query → List (List ℕ) → Writes → Reply → Type 0
 IsTextWritten query bytes writes (names_listed count) = IsListingWritten query bytes writes
+IsTextWritten query bytes writes (index_merged len) = IsMergedWritten query bytes writes
 IsTextWritten query bytes writes reply = IsWhole writes (lookup_text query bytes reply)
 
 -- what an index lists, as a text, and how many of its names begin with a prefix
@@ -106,12 +121,12 @@ pub record IsListed (bytes prefix text : List ℕ) (count : ℕ) : Type 0 where
   pub count_is : length names ≡ count
 
 -- there is a reply of a query, and its text was written
-abbrev pub IsReplyOf : Query → List ℕ → Writes → Option Reply → Type 0
+abbrev pub IsReplyOf : Query → List (List ℕ) → Writes → Option Reply → Type 0
 IsReplyOf query bytes writes None = ⊥
 IsReplyOf query bytes writes (Some reply) = IsReply query bytes reply × IsTextWritten query bytes writes reply
 
--- an answer for the bytes of the file of a query
-abbrev pub IsQueryAnswer : Query → List ℕ → Writes → Ran → Type 0
+-- an answer for the bytes of the files of a query
+abbrev pub IsQueryAnswer : Query → List (List ℕ) → Writes → Ran → Type 0
 IsQueryAnswer query bytes writes WriteFault = IsCutOff (IsTextOfReply query bytes) writes
 IsQueryAnswer query bytes writes NoMemory = IsNotWritten (IsTextOfReply query bytes) writes
 IsQueryAnswer query bytes writes ran = IsReplyOf query bytes writes (reply_in ran)
