@@ -8,13 +8,9 @@ address entries. Indexes of overlapping numbers share names.
 import struct
 import sys
 
+sys.dont_write_bytecode = True
 
-def hash_of(name):
-    value = 0
-    for byte in name:
-        value = (value * 67 + byte - 113) & 0xffffffff
-    return value
-
+from probe_steps import hash_of
 
 def main(path, first, count):
     units = count // 1000 + 1
