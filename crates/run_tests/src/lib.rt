@@ -7,6 +7,8 @@ mod arguments;
 #[cfg(test)]
 mod demos;
 #[cfg(test)]
+mod merges;
+#[cfg(test)]
 mod queries;
 #[cfg(test)]
 mod reports;

@@ -5,7 +5,7 @@ use crate::runs::{FRAMES, outcome, outcome_of};
 use std::test::Fail;
 
 /// The index of one unit of twelve bytes that publishes `main`.
-const MAIN: &str = "\
+pub(crate) const MAIN: &str = "\
     090000001c0000002c0000002c0000002c0000003c0000004400000000000000\
     000000000c000000000000000000000000000000080000000000000000000000\
     0000000001000000000000306d61696e00";
@@ -37,7 +37,8 @@ const SORTED: [u8; 74] = *b"\
     \xb1\xb2\xb3\xa1\xa2\xa3";
 
 /// An index whose offsets do not ascend.
-const NO_OFFSETS: [u8; 28] = *b"\x09\0\0\0\0\0\0\0\0\0\0\0\0\0\0\0\0\0\0\0\0\0\0\0\0\0\0\0";
+pub(crate) const NO_OFFSETS: [u8; 28] =
+    *b"\x09\0\0\0\0\0\0\0\0\0\0\0\0\0\0\0\0\0\0\0\0\0\0\0\0\0\0\0";
 
 /// Returns the sorted contribution with this magic and version, and these starts of its functions.
 fn sorted_with(header: [u8; 3], first: [u8; 4], second: [u8; 4]) -> [u8; 74] {
