@@ -42,19 +42,30 @@ fn split<'a>(
     Ok(split_eh_frame(rt.alloc(), file, SectionIndex(6), list, &[true; 10])?)
 }
 
+// both are short, so that their sizes can be added
+fn appended<'a>(
+    mut frames: EhFrames<'a, Class64>,
+    others: EhFrames<'a, Class64>,
+) -> Result<EhFrames<'a, Class64>, Fail> {
+    if frames.total_bytes() < 1000 && others.total_bytes() < 1000 {
+        frames.append(others)?;
+    }
+    Ok(frames)
+}
+
 #[test]
 fn either_form_and_appended(rt: HostRuntime) -> Result<(), Fail> {
     let object = object_of_two_units(rt.alloc())?;
     let file = File::<Class64>::parse_bytes(&object, false)?;
     let bytes = records(rt.alloc(), &[relocation(16, 1)])?;
-    let mut frames = split(&rt, &file, &sequence(rt.alloc(), &bytes)?)?;
+    let frames = split(&rt, &file, &sequence(rt.alloc(), &bytes)?)?;
     let others = split(&rt, &file, &in_crel(rt.alloc(), relocation(16, 1))?)?;
     for either in [&frames, &others] {
         assert_eq!(rt; counts(either), Some([1, 1, 0, 8, 6, 1]));
         assert_eq!(rt; sizes(either), [8, 24, 16, 0]);
         assert_eq!(rt; either.last(SectionIndex(3)), Some(FrameIndex(0)));
     }
-    frames.append(others)?;
+    let frames = appended(frames, others)?;
     assert_eq!(rt; frames.last(SectionIndex(3)), Some(FrameIndex(1)));
     let mut chain = frames.chain(SectionIndex(3));
     assert_eq!(rt;
