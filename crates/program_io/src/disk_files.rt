@@ -1,7 +1,7 @@
 //! The system's files. Their contents are not known to a contract, and they are never steady.
 //!
 //! Reading is generic over the reader, and exact where the reader's bytes are known. Only the opened file itself is not.
-ghost use Rattle.std.specs.Prelude.{◌≡◌, ◌≤◌, ◌+◌, ◌-◌, [], take, drop, vec_len, OnOk, OnErr, IsErrOf, None, false};
+ghost use Rattle.std.specs.Prelude.{◌≡◌, ◌≤◌, ◌+◌, ◌-◌, ◌++◌, [], take, drop, length, vec_len, OnOk, OnErr, IsErrOf, None, false};
 ghost use Rattle.std.specs.Io.KnownBytes.{Consumes, IsAtEnd};
 ghost use Rattle.program_io.specs.Counting.{RoseBy};
 ghost use Rattle.program_io.specs.Reading.{IsReadToEnd, IsLeftTooLong};
@@ -9,12 +9,45 @@ ghost use Rattle.std.proofs.Common.{rules};
 
 use crate::trail::Trail;
 use crate::{FileFault, Files};
+use std::alloc::AllocError;
 use std::fs;
 use std::io::Read;
 use std::marker::Model;
 
 /// How many bytes are read at a time.
 pub const PIECE: usize = 16 * 1024;
+
+/// How many bytes are copied at a time: few enough for vector instructions, where longer copies are left to the processor's slower
+/// repeated move.
+const RUN: usize = 4 * 1024;
+
+/// Returns the bytes of the first run, and those after it.
+fn split_run(bytes: &[u8]) -> (&[u8], &[u8])
+    ensures run { result.0.now ≡ take RUN bytes.now }
+    ensures after { result.1.now ≡ drop RUN bytes.now }
+{
+    if bytes.len() < RUN {
+        (bytes, &[])
+    } else {
+        bytes.split_at(RUN)
+    }
+}
+
+/// Appends bytes, run by run. After an error `out` has some of them.
+fn append_runs(out: &mut Vec<u8>, bytes: &[u8]) -> Result<(), AllocError>
+    ensures ok { OnOk result (out.new.items ≡ out.old.items ++ bytes.now) }
+    ensures kept { take (vec_len out.old) out.new.items ≡ out.old.items }
+    ensures longer { vec_len out.old ≤ vec_len out.new }
+    ensures most { vec_len out.new ≤ vec_len out.old + length bytes.now }
+{
+    let mut rest = bytes;
+    'runs: while !rest.is_empty() {
+        let (run, after) = split_run(rest);
+        out.extend_from_slice(run)?;
+        rest = after;
+    }
+    Ok(())
+}
 
 /// Reads what a reader has left onto the end of `out`, piece by piece, and counts the bytes that it takes. After an error `out` has some of
 /// them.
@@ -47,7 +80,7 @@ fn append_rest<R: Read>(
         if count > limit - got {
             return Err(FileFault::TooLong);
         }
-        out.extend_from_slice(&piece[..count])?;
+        append_runs(out, &piece[..count])?;
         got += count;
     }
 }
