@@ -5,4 +5,5 @@ pub mod ListingLemmas
 pub mod NumberLemmas
 pub mod NumberTexts
 pub mod ReportLemmas
+mod RowLemmas
 pub mod WordLemmas

@@ -12,7 +12,7 @@ pub fewer : (after rest : List ℕ) → 0 < length rest → after ≡ drop 32 re
 fewer after rest some is = omega (arith, ap (λ (l : List ℕ). length l) is, length-drop 32 rest)
 
 -- the digits of a list are those of its parts
-digits_of_parts : (digits front back : List ℕ) → encode_with digits (front ++ back) ≡ encode_with digits front ++ encode_with digits back
+pub digits_of_parts : (digits front back : List ℕ) → encode_with digits (front ++ back) ≡ encode_with digits front ++ encode_with digits back
 unfolding encode_with
 digits_of_parts digits [] back = refl
 digits_of_parts digits (byte ∷ front) back = ap (λ (l : List ℕ). slice_index digits (byte / 16) ∷ slice_index digits (byte % 16) ∷ l) (digits_of_parts digits front back)

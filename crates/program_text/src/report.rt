@@ -2,9 +2,9 @@
 //!
 //! Every line ends with a line feed. Numbers are decimal, bytes and the elements of CU vectors lower-case hexadecimal. It is built in one
 //! buffer, which is allocated once.
-ghost use Rattle.std.specs.Prelude.{◌≡◌, ◌≤◌, ◌++◌, ◌∷◌, [], length, take, drop, codes, map, IfOk, OnOk};
+ghost use Rattle.std.specs.Prelude.{◌≡◌, ◌≤◌, ◌<◌, ◌++◌, ◌∷◌, [], length, take, drop, codes, map, slice_index, IfOk, OnOk};
 ghost use Rattle.std.specs.List.{flat_map};
-ghost use Rattle.hex.specs.Hex.{encode_lower};
+ghost use Rattle.hex.specs.Hex.{encode_lower, lower_digits};
 ghost use Rattle.program_text.specs.Lines.{text_of};
 ghost use Rattle.program_text.specs.Report.{fields, unit_lines, name_digits, word_digits, name_line, outcome_line, byte_lines, section_lines, report_of};
 
@@ -61,15 +61,30 @@ fn split_row(bytes: &[u8]) -> (&[u8], &[u8])
     }
 }
 
-/// Appends the digits of a row of bytes.
+/// Returns the digit of a number below 16.
+fn digit(number: u8) -> u8
+    requires { number < 16 }
+    ensures { result ≡ slice_index lower_digits number }
+{
+    if number < 10 {
+        b'0' + number
+    } else {
+        b'a' + (number - 10)
+    }
+}
+
+/// Appends the digits of a row of bytes. They are computed, and not looked up one by one, so that a compiler can do many at once.
 fn push_row(out: &mut Vec<u8>, row: &[u8]) -> Result<(), AllocError>
     requires short { length row.now ≤ ROW }
     ensures ok { OnOk result (out.new.items ≡ out.old.items ++ encode_lower row.now) }
 {
     let mut room = [0u8; 2 * ROW];
-    let digits = &mut room[..2 * row.len()];
-    hex::encode_to_slice(row, digits).unwrap();
-    out.extend_from_slice(digits)?;
+    'bytes: for i in 0..row.len() {
+        let byte = row[i];
+        room[2 * i] = digit(byte / 16);
+        room[2 * i + 1] = digit(byte % 16);
+    }
+    out.extend_from_slice(&room[..2 * row.len()])?;
     Ok(())
 }
 
@@ -91,10 +106,7 @@ fn push_digits(out: &mut Vec<u8>, bytes: &[u8]) -> Result<(), AllocError>
 pub(crate) fn push_element(out: &mut Vec<u8>, element: u32) -> Result<(), AllocError>
     ensures ok { OnOk result (out.new.items ≡ out.old.items ++ word_digits element) }
 {
-    let mut digits = [0u8; 8];
-    hex::encode_to_slice(element.to_be_bytes(), &mut digits).unwrap();
-    out.extend_from_slice(&digits)?;
-    Ok(())
+    push_row(out, &element.to_be_bytes())
 }
 
 /// Appends the eight digits of each element of a CU vector, each after a space.
