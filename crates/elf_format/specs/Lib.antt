@@ -9,10 +9,16 @@ pub mod Table
 pub mod Architecture
 pub mod Section
 pub mod Symbol
+pub mod Chain
+pub mod VersionChain
 pub mod Version
+pub mod VersionName
+pub mod SymbolName
+pub mod Group
+pub mod Dynamic
+pub mod Compression
 pub mod Fault
 pub mod Example
-pub mod Chain
 pub mod Leb128
 pub mod Crel
 pub mod Cursor
