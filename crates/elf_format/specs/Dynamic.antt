@@ -21,18 +21,18 @@ abbrev pub dt_verdefnum : ℕ
 dt_verdefnum = 0x6ffffffd
 
 -- the entries in a section's bytes, which are whole
-abbrev pub entries_in : Class → Option (List ℕ) → Option (List (List ℕ))
-entries_in c None = None
-entries_in c (Some bytes) = if is_whole (dyn_size c) bytes then Some (whole_records (dyn_size c) bytes) else None
+abbrev pub dynamic_entries_in : Class → Option (List ℕ) → Option (List (List ℕ))
+dynamic_entries_in c None = None
+dynamic_entries_in c (Some bytes) = if is_whole (dyn_size c) bytes then Some (whole_records (dyn_size c) bytes) else None
 
 -- the entries of a dynamic section, none without one
-abbrev pub entries_of : Class → List ℕ → Option (List ℕ) → Option (List (List ℕ))
-entries_of c file None = Some []
-entries_of c file (Some header) = entries_in c (section_bytes c file header)
+abbrev pub dynamic_entries_of : Class → List ℕ → Option (List ℕ) → Option (List (List ℕ))
+dynamic_entries_of c file None = Some []
+dynamic_entries_of c file (Some header) = dynamic_entries_in c (section_bytes c file header)
 
 -- the entries of a file, or None where they are malformed
 unfoldable pub dynamic_entries : Class → List ℕ → Option (List (List ℕ))
-dynamic_entries c file = entries_of c file (find (λ header. get (sh_type c) header == sht_dynamic) (sections c file))
+dynamic_entries c file = dynamic_entries_of c file (find (λ header. get (sh_type c) header == sht_dynamic) (sections c file))
 
 -- the value of the last entry with a tag
 abbrev pub last_value : Class → ℕ → List (List ℕ) → Option ℕ
@@ -43,15 +43,15 @@ unfoldable pub own_name : Class → List ℕ → List (List ℕ) → Option (Lis
 own_name c strings entries = option_and_then (λ value. string_at strings (value % 2 ^ 32)) (last_value c dt_soname entries)
 
 -- whether a name is found in a list by a test
-abbrev pub is_known : (List ℕ → Bool) → Option (List ℕ) → Bool
-is_known contains None = Bool.false
-is_known contains (Some name) = contains name
+abbrev pub is_known_library : (List ℕ → Bool) → Option (List ℕ) → Bool
+is_known_library contains None = Bool.false
+is_known_library contains (Some name) = contains name
 
 -- whether an entry does not name a needed library, or one that is known
 abbrev pub is_met : Class → List ℕ → (List ℕ → Bool) → List ℕ → Bool
 is_met c strings contains entry =
     not (get (d_tag c) entry == dt_needed)
-    || nat_lt (get (d_value c) entry) (2 ^ 32) && is_known contains (string_at strings (get (d_value c) entry))
+    || nat_lt (get (d_value c) entry) (2 ^ 32) && is_known_library contains (string_at strings (get (d_value c) entry))
 
 -- whether each needed library is known, by a test of its name; also where the entries are malformed
 abbrev pub are_met : Class → List ℕ → (List ℕ → Bool) → Option (List (List ℕ)) → Bool

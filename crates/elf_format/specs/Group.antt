@@ -41,9 +41,9 @@ abbrev pub signature : Class → Bool → List ℕ → ℕ → Option (List ℕ)
 signature c is_dynamic file symbol = option_and_then (symbol_name c is_dynamic file) (slice_get (symbols c is_dynamic file) symbol)
 
 -- the words in a section's bytes, which are whole
-abbrev pub words_in : Option (List ℕ) → Option (List ℕ)
-words_in None = None
-words_in (Some bytes) = if is_whole 4 bytes then Some (map (λ word. le word 0 4) (whole_records 4 bytes)) else None
+abbrev pub group_words : Option (List ℕ) → Option (List ℕ)
+group_words None = None
+group_words (Some bytes) = if is_whole 4 bytes then Some (map (λ word. le word 0 4) (whole_records 4 bytes)) else None
 
 -- a member by its header: a section that exists and is no group, with the flag SHF_GROUP
 abbrev pub member_with : Class → ℕ → ℕ → Option (List ℕ) → Result ℕ GroupFault
@@ -68,11 +68,11 @@ group_of_words c file group symbol (Some (flags ∷ members)) =
     else each_ok (member_of c file group) members >>= (λ found. Ok (record { index = group; signature_symbol = symbol; is_comdat = flags == grp_comdat; members = found }))
 
 -- the group in the section with an index and a header
-unfoldable pub group_of : Class → Bool → List ℕ → ℕ × List ℕ → Result Group GroupFault
-group_of c is_dynamic file section =
+unfoldable pub section_group : Class → Bool → List ℕ → ℕ × List ℕ → Result Group GroupFault
+section_group c is_dynamic file section =
     if not (is_table_at (get (sh_link c) section.1) (symbol_table c is_dynamic file)) then Err (other_symbol_table section.0)
     else if is_none (signature c is_dynamic file (get (sh_info c) section.1)) then Err (bad_signature section.0)
-    else group_of_words c file section.0 (get (sh_info c) section.1) (words_in (section_bytes c file section.1))
+    else group_of_words c file section.0 (get (sh_info c) section.1) (group_words (section_bytes c file section.1))
 
 -- the sections of type SHT_GROUP, each by its index and header
 abbrev pub group_sections : Class → List ℕ → List (ℕ × List ℕ)
@@ -80,4 +80,4 @@ group_sections c file = filter (λ s. get (sh_type c) s.1 == sht_group) (enumera
 
 -- all groups, in the order of their sections
 unfoldable pub groups : Class → Bool → List ℕ → Result (List Group) GroupFault
-groups c is_dynamic file = each_ok (group_of c is_dynamic file) (group_sections c file)
+groups c is_dynamic file = each_ok (section_group c is_dynamic file) (group_sections c file)

@@ -14,16 +14,16 @@ abbrev pub at_sign : ℕ
 at_sign = 0x40
 
 -- a name before an `@`, by what follows that `@`
-abbrev pub with_version : List ℕ → List ℕ → VersionedName
-with_version name [] = record { name = name; version = Some []; is_default = false }
-with_version name (b ∷ after) =
+abbrev pub before_at_sign : List ℕ → List ℕ → VersionedName
+before_at_sign name [] = record { name = name; version = Some []; is_default = false }
+before_at_sign name (b ∷ after) =
     if b == at_sign then record { name = name; version = Some after; is_default = true }
     else record { name = name; version = Some (b ∷ after); is_default = false }
 
 -- a name split at an `@`, or the default one without a version where there is none
 abbrev pub split_at : List ℕ → Option ℕ → VersionedName
 split_at bytes None = record { name = bytes; version = None; is_default = true }
-split_at bytes (Some n) = with_version (take n bytes) (drop (suc n) bytes)
+split_at bytes (Some n) = before_at_sign (take n bytes) (drop (suc n) bytes)
 
 -- a name split at its first `@`
 unfoldable pub versioned_name : List ℕ → VersionedName
