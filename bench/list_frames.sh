@@ -1,12 +1,12 @@
 #!/usr/bin/env bash
-# Measures `list_frames` on an object of many FDEs: `bench/list_frames.sh [FDES]`, a million if it isn't said. The object is of ELFCLASS64;
+# Measures `list_object frames` on an object of many FDEs: `bench/list_frames.sh [FDES]`, a million if it isn't said. The object is of ELFCLASS64;
 # its `.eh_frame` has one CIE, and its FDEs are in turn for a thousand sections. Time and the most memory of three runs are printed.
-# The program is the one that the gate or `rt run` left, or the one that LIST_FRAMES names.
+# The program is the one that the gate or `rt run` left, or the one that LIST_OBJECT names.
 set -eu
 count=${1:-1000000}
 top=$(cd "$(dirname "$0")/.." && pwd)
-program=${LIST_FRAMES:-$top/crates/list_frames/out/list_frames}
-[ -x "$program" ] || { echo "no program: cd crates/list_frames && rt run" >&2; exit 1; }
+program=${LIST_OBJECT:-$top/crates/list_object/out/list_object}
+[ -x "$program" ] || { echo "no program: cd crates/list_object && rt run" >&2; exit 1; }
 work=$(mktemp -d)
 trap 'rm -rf "$work"' EXIT
 
@@ -48,7 +48,7 @@ import sys
 import time
 
 start = time.monotonic()
-lines = subprocess.run(sys.argv[1:], check=True, stdout=subprocess.PIPE).stdout.count(b"\nframe ")
+lines = subprocess.run([sys.argv[1], "frames", sys.argv[2]], check=True, stdout=subprocess.PIPE).stdout.count(b"\nframe ")
 took = time.monotonic() - start
 used = resource.getrusage(resource.RUSAGE_CHILDREN)
 print(f"{lines} frames listed in {took * 1000:.0f} ms ({used.ru_utime * 1000:.0f} ms in the program), at most {used.ru_maxrss} kB")

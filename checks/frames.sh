@@ -1,13 +1,13 @@
 #!/usr/bin/env bash
-# Frames of objects that g++ makes with a section for each function, of both classes: the CIEs and FDEs that `list_frames` lists, their
+# Frames of objects that g++ makes with a section for each function, of both classes: the CIEs and FDEs that `list_object frames` lists, their
 # offsets, lengths and sections, are those that readelf gives. Skipped where g++, readelf, python3 or the built program is missing.
 set -u
 top=$(cd "$(dirname "$0")/.." && pwd) || exit 1
-program=${LIST_FRAMES:-$top/crates/list_frames/out/list_frames}
+program=${LIST_OBJECT:-$top/crates/list_object/out/list_object}
 for tool in g++ readelf python3; do
   command -v "$tool" >/dev/null || { echo "skipped: no $tool"; exit 0; }
 done
-[ -x "$program" ] || { echo "skipped: no program list_frames, which the gate builds"; exit 0; }
+[ -x "$program" ] || { echo "skipped: no program list_object, which the gate builds"; exit 0; }
 work=$(mktemp -d) || exit 1
 trap 'rm -rf "$work"' EXIT
 cd "$work" || exit 1
@@ -29,7 +29,7 @@ compared=0
 for options in "" "-O1" "-mx32"; do
   # shellcheck disable=SC2086
   if g++ $options -g0 -ffreestanding -ffunction-sections -c frames.cc -o frames.o 2>/dev/null; then
-    "$program" frames.o >listed || { echo "g++ $options: list_frames ends with status $?"; exit 1; }
+    "$program" frames frames.o >listed || { echo "g++ $options: list_object ends with status $?"; exit 1; }
     python3 "$top/checks/frames_of_object.py" frames.o <listed || { echo "of g++ $options"; exit 1; }
     compared=$((compared + 1))
   fi

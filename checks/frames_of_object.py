@@ -1,7 +1,7 @@
 #!/usr/bin/env python3
 """Whether a listing of frames is what readelf says of an object: `checks/frames_of_object.py OBJECT <LISTING`.
 
-LISTING is what `list_frames OBJECT` prints. Offsets and lengths of CIEs and FDEs are those of `readelf --debug-dump=frames`; the
+LISTING is what `list_object frames OBJECT` prints. Offsets and lengths of CIEs and FDEs are those of `readelf --debug-dump=frames`; the
 section of an FDE is that in which readelf finds the symbol of the relocation of its PC Begin.
 """
 

@@ -1,35 +1,17 @@
 //! Lists what an `.eh_frame` section holds.
 
+use crate::error::ListError;
 use elf_format::{ElfError, SectionIndex};
 use elf_frames::{EhFrames, ExceptionFrame, FrameError, split_eh_frame};
 use elf_relocs::Relocation;
-use elf_view::{AnyFile, File};
+use elf_view::File;
 use elf_words::ElfClass;
-use program_io::{DiskFiles, Files};
 use std::alloc::Global;
 use std::io;
-use std::rt::Env;
-
-/// How many bytes the name of a file may have.
-const NAME_LIMIT: usize = 4096;
-
-/// How many bytes a file may have.
-const FILE_LIMIT: usize = 1 << 30;
 
 /// How many bytes of an FDE stand before its field PC Begin, whose relocation is the first of the entry: the length and the
 /// CIE pointer.
 const BEFORE_BEGIN: u64 = 8;
-
-/// Returns the bytes of the file that the first argument names, or None where it is not read.
-pub(crate) fn read_file<R: Env + std::rt::Files>(rt: &R, alloc: Global) -> Option<Vec<u8>> {
-    let mut name = [0; NAME_LIMIT];
-    let length = rt.arg(1, &mut name).ok()?;
-    let name = str::from_utf8(name.get(..length)?).ok()?;
-    let mut bytes = Vec::new(alloc);
-    let mut files = DiskFiles::new(rt);
-    files.read_onto(name, &mut bytes, FILE_LIMIT).ok()?;
-    Some(bytes)
-}
 
 /// Splits the first section of this name. Every section counts as loadable. Without such a section there is no frame.
 fn split<'a, C: ElfClass>(
@@ -82,23 +64,12 @@ fn print<C: ElfClass, R: Print>(
 }
 
 /// Lists the frames of a file of one class.
-fn list<C: ElfClass, R: Print>(
+pub(crate) fn list_frames<C: ElfClass, R: Print>(
     rt: &R,
     alloc: Global,
     file: &File<'_, C>,
-) -> Result<(), FrameError> {
+) -> Result<(), ListError> {
     let frames = split(alloc, file)?;
-    match print(rt, &frames, file.num_sections()) {
-        Ok(()) => Ok(()),
-        Err(_) => Err(FrameError::NoMemory),
-    }
-}
-
-/// Lists the frames of an object. The error is why the object or its section is not read.
-pub(crate) fn list_bytes<R: Print>(rt: &R, alloc: Global, bytes: &[u8]) -> Result<(), FrameError> {
-    match AnyFile::parse_bytes(bytes, false) {
-        Ok(AnyFile::Class64(file)) => list(rt, alloc, &file),
-        Ok(AnyFile::Class32(file)) => list(rt, alloc, &file),
-        Err(error) => Err(FrameError::Elf(error)),
-    }
+    print(rt, &frames, file.num_sections())?;
+    Ok(())
 }
