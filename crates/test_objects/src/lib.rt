@@ -12,9 +12,9 @@ mod section;
 pub use class::ObjectClass;
 pub use elf_words::ET_REL;
 pub use object_file::{object, object_of_class};
-pub use records::{rela_records, symbol_table};
+pub use records::{SymbolRecord, dynamic_entries, rela_records, symbol_records, symbol_table};
 pub use samples::{
     SET_OF_MAIN, UNIT, object_of_two_units, object_of_two_units_of, object_with_names,
-    object_with_names_of, sample,
+    object_with_names_of, sample, sections_of_two_units,
 };
 pub use section::{Section, plain};

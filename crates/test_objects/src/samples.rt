@@ -83,41 +83,46 @@ pub fn object_of_two_units(alloc: Global) -> Result<Vec<u8>, AllocError> {
 
 /// Returns such an object of a class.
 pub fn object_of_two_units_of(alloc: Global, class: ObjectClass) -> Result<Vec<u8>, AllocError> {
-    let (relocations, symbols) = match class {
-        ObjectClass::Elf32 => (RELOCATIONS_32, SYMBOLS_32),
-        ObjectClass::Elf64 => (RELOCATIONS, SYMBOLS),
-    };
     object_of_class(
         alloc,
         class,
         ET_REL,
         Architecture::X86_64.machine(),
-        &[
-            plain(b".debug_info", 0, TWO_UNITS),
-            Section {
-                section_type: SHT_RELA,
-                link: 7,
-                info: 1,
-                entry_size: class.rela_size(),
-                ..plain(b".rela.debug_info", 0, relocations)
-            },
-            plain(b".text.a", CODE, &[0; 16]),
-            plain(b".text.b", CODE, &[0; 16]),
-            plain(b".text.c", CODE, &[0; 16]),
-            plain(b".eh_frame", SHF_ALLOC, FRAMES),
-            Section {
-                section_type: SHT_SYMTAB,
-                link: 8,
-                info: 3,
-                entry_size: class.symbol_size(),
-                ..plain(b".symtab", 0, symbols)
-            },
-            Section {
-                section_type: SHT_STRTAB,
-                ..plain(b".strtab", 0, &[0; 1])
-            },
-        ],
+        &sections_of_two_units(class),
     )
+}
+
+/// Returns the sections 1 to 8 of such an object. The symbol table is section 7.
+pub fn sections_of_two_units(class: ObjectClass) -> [Section<'static>; 8] {
+    let (relocations, symbols) = match class {
+        ObjectClass::Elf32 => (RELOCATIONS_32, SYMBOLS_32),
+        ObjectClass::Elf64 => (RELOCATIONS, SYMBOLS),
+    };
+    [
+        plain(b".debug_info", 0, TWO_UNITS),
+        Section {
+            section_type: SHT_RELA,
+            link: 7,
+            info: 1,
+            entry_size: class.rela_size(),
+            ..plain(b".rela.debug_info", 0, relocations)
+        },
+        plain(b".text.a", CODE, &[0; 16]),
+        plain(b".text.b", CODE, &[0; 16]),
+        plain(b".text.c", CODE, &[0; 16]),
+        plain(b".eh_frame", SHF_ALLOC, FRAMES),
+        Section {
+            section_type: SHT_SYMTAB,
+            link: 8,
+            info: 3,
+            entry_size: class.symbol_size(),
+            ..plain(b".symtab", 0, symbols)
+        },
+        Section {
+            section_type: SHT_STRTAB,
+            ..plain(b".strtab", 0, &[0; 1])
+        },
+    ]
 }
 
 /// Returns an object of ELFCLASS64 for x86-64 with a CU, an empty `.debug_gnu_pubnames`, code, two symbols with their

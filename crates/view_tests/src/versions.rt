@@ -1,0 +1,214 @@
+//! Symbol versions (GNU symbol versioning): the names of versions, chains of their records, and what is refused of malformed ones.
+
+use crate::shared::{DEFINITIONS, NEEDS, Parts, WELL_FORMED, shared_object};
+use elf_format::{ElfError, SectionIndex, SymbolIndex};
+use elf_records32::Class32;
+use elf_records64::Class64;
+use elf_view::{File, RawSymbolName, VersionError, raw_symbol_name};
+use elf_words::ElfClass;
+use std::alloc::{AllocError, Global};
+use std::test::Fail;
+use test_objects::{ObjectClass, object_with_names_of};
+
+/// What is said of a symbol: its name with the version that is defined for it, its name with the version that it needs, and the
+/// text of its version. A name that is not read is `unreadable`.
+#[derive(Drop)]
+struct Said {
+    defined: String,
+    needed: String,
+    text: Vec<u8>,
+}
+
+/// Says it of the symbol at an index.
+fn say<C: ElfClass>(
+    alloc: Global,
+    file: &File<'_, C>,
+    index: SymbolIndex,
+) -> Result<Said, VersionError> {
+    let names = file.get_version_names(alloc)?;
+    let table = file.verneed_table(alloc)?;
+    let symbol = file.symbol(index).map_err(VersionError::Elf)?;
+    let unreadable = RawSymbolName::parse(b"unreadable");
+    let defined = file.get_symbol_name_and_version(&symbol, index.0, &names);
+    let needed = match file.symbol_name(&symbol) {
+        Ok(name) => raw_symbol_name(name, &table, index),
+        Err(_) => unreadable,
+    };
+    Ok(Said {
+        defined: match defined {
+            Ok(name) => format!(in alloc; "{name}")?,
+            Err(_) => format!(in alloc; "unreadable")?,
+        },
+        needed: format!(in alloc; "{needed}")?,
+        text: file.symbol_version_debug(alloc, index)?.unwrap_or(Vec::new(alloc)),
+    })
+}
+
+/// Says it of the symbol at an index of a shared object.
+fn said(alloc: Global, class: ObjectClass, bytes: &[u8], index: usize) -> Result<Said, VersionError> {
+    match class {
+        ObjectClass::Elf64 => {
+            let file = File::<Class64>::parse_bytes(bytes, true).map_err(VersionError::Elf)?;
+            say(alloc, &file, SymbolIndex(index))
+        }
+        ObjectClass::Elf32 => {
+            let file = File::<Class32>::parse_bytes(bytes, true).map_err(VersionError::Elf)?;
+            say(alloc, &file, SymbolIndex(index))
+        }
+    }
+}
+
+#[test]
+fn versions_of_symbols(rt: HostRuntime) -> Result<(), Fail> {
+    let alloc = rt.alloc();
+    for class in [ObjectClass::Elf64, ObjectClass::Elf32] {
+        let bytes = shared_object(alloc, class, WELL_FORMED)?;
+        for (index, defined, needed, text) in [
+            (0, "", "", b"".as_slice()),
+            (1, "one@@TWO", "one", b"@@TWO"),
+            (2, "one@TWO", "one", b"@TWO"),
+            (3, "one", "one@ONE", b"@@ONE"),
+            (4, "one", "one", b""),
+            (5, "unreadable", "unreadable", b""),
+        ] {
+            match said(alloc, class, &bytes, index) {
+                Ok(said) => {
+                    assert_eq!(rt; said.defined.as_str(), defined);
+                    assert_eq!(rt; said.needed.as_str(), needed);
+                    assert_eq!(rt; said.text.as_slice(), text);
+                }
+                Err(_) => return Ok(assert!(rt; false, "symbol {index}")),
+            }
+        }
+    }
+    Ok(())
+}
+
+/// Returns why the names of the definitions and those of the needs of a shared object are refused.
+fn refusals(alloc: Global, bytes: &[u8]) -> (Option<VersionError>, Option<VersionError>) {
+    match File::<Class64>::parse_bytes(bytes, true) {
+        Ok(file) => (file.get_version_names(alloc).err(), file.verneed_table(alloc).err()),
+        Err(error) => (Some(VersionError::Elf(error)), None),
+    }
+}
+
+#[test]
+fn malformed_versions(rt: HostRuntime) -> Result<(), Fail> {
+    let alloc = rt.alloc();
+    let malformed = Some(VersionError::Elf(ElfError::VersionTable));
+    let mut above = DEFINITIONS.to_vec(alloc)?;
+    if let Some(index) = above.get_mut(4) {
+        *index = 3;
+    }
+    let mut nameless = DEFINITIONS.to_vec(alloc)?;
+    if let Some(count) = nameless.get_mut(6) {
+        *count = 0;
+    }
+    for (parts, expected) in [
+        (WELL_FORMED, (None, None)),
+        (Parts { definitions: DEFINITIONS.get(..63).unwrap_or(&[]), ..WELL_FORMED }, (None, None)),
+        (Parts { definitions: DEFINITIONS.get(..55).unwrap_or(&[]), ..WELL_FORMED }, (malformed, None)),
+        (Parts { definition_count: 1, ..WELL_FORMED }, (None, None)),
+        (Parts { definitions: &above, ..WELL_FORMED }, (Some(VersionError::BadIndex(3)), None)),
+        (Parts { definitions: &nameless, ..WELL_FORMED }, (malformed, None)),
+        (Parts { needs: NEEDS.get(..47).unwrap_or(&[]), ..WELL_FORMED }, (None, malformed)),
+        (Parts { needs: &[], ..WELL_FORMED }, (None, malformed)),
+        (Parts { strings: 0, ..WELL_FORMED }, (malformed, malformed)),
+        (Parts { strings: 9, ..WELL_FORMED }, (malformed, malformed)),
+        (Parts { versions: b"\0", ..WELL_FORMED }, (malformed, None)),
+    ] {
+        let bytes = shared_object(alloc, ObjectClass::Elf64, parts)?;
+        assert_eq!(rt; refusals(alloc, &bytes), expected);
+    }
+    Ok(())
+}
+
+/// Returns how many definitions a chain has before its end, and whether it ends with an error; None without definitions.
+fn chain<C: ElfClass>(bytes: &[u8]) -> Option<(usize, bool)> {
+    let file = File::<C>::parse_bytes(bytes, true).ok()?;
+    let (definitions, link) = file.verdef()?;
+    if link != SectionIndex(2) {
+        return None;
+    }
+    let mut count = 0_usize;
+    for definition in definitions {
+        if definition.is_err() {
+            return Some((count, true));
+        }
+        count = count.saturating_add(1);
+    }
+    Some((count, false))
+}
+
+#[test]
+fn chains_of_definitions(rt: HostRuntime) -> Result<(), Fail> {
+    let alloc = rt.alloc();
+    let overlapping = b"\0\0\0\0\0\0\0\0\0\0\0\0\0\0\0\0\x01\0\0\0\0".as_slice();
+    let truncated = b"\0\0\0\0\0\0\0\0\0\0\0\0\0\0\0\0\x02\0\0\0\0".as_slice();
+    for (definitions, definition_count, expected) in [
+        (DEFINITIONS, 2, Some((2, false))),
+        (DEFINITIONS, 1, Some((1, false))),
+        (DEFINITIONS, 9, Some((2, false))),
+        (DEFINITIONS, 0, Some((0, false))),
+        (overlapping, 3, Some((2, false))),
+        (truncated, 3, Some((1, true))),
+        (b"", 1, Some((0, true))),
+    ] {
+        let parts = Parts { definitions, definition_count, ..WELL_FORMED };
+        let wide = shared_object(alloc, ObjectClass::Elf64, parts)?;
+        assert_eq!(rt; chain::<Class64>(&wide), expected);
+        let narrow = shared_object(alloc, ObjectClass::Elf32, parts)?;
+        assert_eq!(rt; chain::<Class32>(&narrow), expected);
+    }
+    Ok(())
+}
+
+/// Returns whether a file without versions says that it has none.
+fn has_no_versions<C: ElfClass>(alloc: Global, bytes: &[u8]) -> Result<bool, VersionError> {
+    let file = File::<C>::parse_bytes(bytes, false).map_err(VersionError::Elf)?;
+    let names = file.get_version_names(alloc)?;
+    let needed = file.verneed_table(alloc)?;
+    let text = file.symbol_version_debug(alloc, SymbolIndex(0))?;
+    Ok(names.len() == 1
+        && names.get(0).is_none()
+        && needed.version_name(SymbolIndex(0)).is_none()
+        && text.is_none()
+        && file.verdef().is_none()
+        && file.verneed().is_none()
+        && file.verdefnum() == 0
+        && file.symbol_versions().len() == 0)
+}
+
+#[test]
+fn a_file_without_versions(rt: HostRuntime) -> Result<(), Fail> {
+    let alloc = rt.alloc();
+    let wide = object_with_names_of(alloc, ObjectClass::Elf64, &[], &[])?;
+    assert_eq!(rt; has_no_versions::<Class64>(alloc, &wide), Ok(true));
+    let narrow = object_with_names_of(alloc, ObjectClass::Elf32, &[], &[])?;
+    assert_eq!(rt; has_no_versions::<Class32>(alloc, &narrow), Ok(true));
+    Ok(())
+}
+
+/// Returns the number of places for names, and the names of the indexes 0 to 3.
+fn names_by_index(alloc: Global, bytes: &[u8]) -> Result<(usize, [Option<bool>; 4]), VersionError> {
+    let file = File::<Class64>::parse_bytes(bytes, true).map_err(VersionError::Elf)?;
+    let names = file.get_version_names(alloc)?;
+    let expected = [b"".as_slice(), b"BASE", b"TWO", b""];
+    let mut found = [None; 4];
+    for (index, (place, name)) in found.iter_mut().zip(expected).enumerate() {
+        *place = names.get(index).map(|held| held == name);
+    }
+    Ok((names.len(), found))
+}
+
+#[test]
+fn names_of_definitions(rt: HostRuntime) -> Result<(), Fail> {
+    let alloc = rt.alloc();
+    let bytes = shared_object(alloc, ObjectClass::Elf64, WELL_FORMED)?;
+    let expected = (3, [None, Some(true), Some(true), None]);
+    assert_eq!(rt; names_by_index(alloc, &bytes), Ok(expected));
+    let parts = Parts { definition_count: 0, ..WELL_FORMED };
+    let bytes = shared_object(alloc, ObjectClass::Elf64, parts)?;
+    assert_eq!(rt; names_by_index(alloc, &bytes), Ok((1, [None; 4])));
+    Ok(())
+}
