@@ -69,13 +69,13 @@ fn compressed_object(alloc: Global, class: ObjectClass) -> Result<Vec<u8>, Alloc
 fn sizes<C: ElfClass>(bytes: &[u8]) -> Option<Sizes> {
     let file = File::<C>::parse_bytes(bytes, false).ok()?;
     let mut found = [(Ok(0), Ok(0), None); 4];
-    for (index, place) in found.iter_mut().enumerate() {
+    for (index, slot) in found.iter_mut().enumerate() {
         let header = file.section(SectionIndex(index.saturating_add(1))).ok()?;
         let error = match file.section_data(&header) {
             Ok(_) => None,
             Err(error) => Some(error),
         };
-        *place = (file.section_size(&header), file.section_alignment(&header), error);
+        *slot = (file.section_size(&header), file.section_alignment(&header), error);
     }
     Some(found)
 }

@@ -189,14 +189,14 @@ fn a_file_without_versions(rt: HostRuntime) -> Result<(), Fail> {
     Ok(())
 }
 
-/// Returns the number of places for names, and the names of the indexes 0 to 3.
+/// Returns the number of indexes with room for a name, and the names of the indexes 0 to 3.
 fn names_by_index(alloc: Global, bytes: &[u8]) -> Result<(usize, [Option<bool>; 4]), VersionError> {
     let file = File::<Class64>::parse_bytes(bytes, true).map_err(VersionError::Elf)?;
     let names = file.get_version_names(alloc)?;
     let expected = [b"".as_slice(), b"BASE", b"TWO", b""];
     let mut found = [None; 4];
-    for (index, (place, name)) in found.iter_mut().zip(expected).enumerate() {
-        *place = names.get(index).map(|held| held == name);
+    for (index, (slot, name)) in found.iter_mut().zip(expected).enumerate() {
+        *slot = names.get(index).map(|held| held == name);
     }
     Ok((names.len(), found))
 }
