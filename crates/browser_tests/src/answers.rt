@@ -1,9 +1,9 @@
 //! What an index that passes its tests lists.
 
-use crate::samples::{MAIN, MAIN_8};
 use gdb_index_format::CuBoundary;
 use index_browser::check_index;
 use std::test::Fail;
+use test_objects::{MAIN, MAIN_8};
 
 #[test]
 fn an_index_of_one_name(rt: HostRuntime) -> Result<(), Fail> {

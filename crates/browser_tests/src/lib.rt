@@ -7,6 +7,4 @@ mod answers;
 #[cfg(test)]
 mod refusals;
 #[cfg(test)]
-mod samples;
-#[cfg(test)]
 mod written;

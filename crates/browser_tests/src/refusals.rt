@@ -1,9 +1,9 @@
 //! Why an index is refused: each test that one can fail, once in each version, and which comes first.
 
-use crate::samples::{MAIN, MAIN_8, with_bytes};
 use gdb_index_format::BadIndex;
 use index_browser::{BrowseError, check_index};
 use std::test::Fail;
+use test_objects::{MAIN, MAIN_8, with_bytes};
 
 /// The slots of `MAIN`, exchanged.
 const EXCHANGED: &[u8] = b"\x08\0\0\0\0\0\0\0\0\0\0\0\0\0\0\0";

@@ -1,13 +1,12 @@
 //! The index that the writer makes of an object, in each version, and a damaged entry of its address area.
 
-use crate::samples::with_bytes;
 use elf_view::AnyFile;
 use gdb_index_format::{AddressEntry, IndexVersion, Placement};
 use gdb_tables::{build_index, first_misplaced};
 use index_browser::{BrowseError, check_index};
 use std::alloc::{AllocError, Global};
 use std::test::Fail;
-use test_objects::{SET_OF_MAIN, UNIT, object_with_names};
+use test_objects::{SET_OF_MAIN, UNIT, object_with_names, with_bytes};
 
 /// The addresses of the 16 bytes of code.
 const CODE: Placement = Placement {

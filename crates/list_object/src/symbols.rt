@@ -39,7 +39,10 @@ fn print_symbol<C: ElfClass, R: Print>(
     };
     let (value, size) = (symbol.st_value(), symbol.st_size());
     let (info, other) = (symbol.st_info(), symbol.st_other());
-    println!(rt; "symbol {} {value} {size} {info} {other} {section} [{name}] [{needed}] [{text}]", index.0)?;
+    println!(rt;
+        "symbol {} {value} {size} {info} {other} {section} [{name}] [{needed}] [{text}]",
+        index.0
+    )?;
     Ok(())
 }
 

@@ -32,7 +32,11 @@ fn print_definition<R: Print>(
     definition: Verdef,
     names: VerdauxIter<'_>,
 ) -> Result<(), ListError> {
-    println!(rt; "definition {} {}", definition.vd_ndx(), definition.vd_flags())?;
+    println!(rt;
+        "definition {} {}",
+        definition.vd_ndx(),
+        definition.vd_flags()
+    )?;
     for name in names {
         let name = string_at(strings, name?.vda_name());
         println!(rt; "version [{name}]")?;
@@ -52,7 +56,11 @@ fn print_need<R: Print>(
     for version in versions {
         let version = version?;
         let name = string_at(strings, version.vna_name());
-        println!(rt; "needed {} {} [{name}]", version.vna_other(), version.vna_flags())?;
+        println!(rt;
+            "needed {} {} [{name}]",
+            version.vna_other(),
+            version.vna_flags()
+        )?;
     }
     Ok(())
 }

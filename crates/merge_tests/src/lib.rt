@@ -5,5 +5,3 @@
 mod merging;
 #[cfg(test)]
 mod refusing;
-#[cfg(test)]
-mod samples;

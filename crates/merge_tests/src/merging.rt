@@ -1,10 +1,10 @@
 //! What two indexes are merged in, in both versions.
 
-use crate::samples::{MAIN, MAIN_8, MAIN_TWICE, PLACED};
 use gdb_index_format::{AddressEntry, CuBoundary, IndexVersion};
 use index_browser::check_index;
 use index_merge::merge_indexes;
 use std::test::Fail;
+use test_objects::{MAIN, MAIN_8, MAIN_TWICE, PLACED};
 
 #[test]
 fn one_index_twice(rt: HostRuntime) -> Result<(), Fail> {

@@ -1,10 +1,10 @@
 //! Why two indexes are not merged.
 
-use crate::samples::{MAIN, MAIN_TWICE};
 use gdb_index_format::IndexVersion;
 use index_browser::check_index;
 use index_merge::{MergeError, merge_indexes};
 use std::test::Fail;
+use test_objects::{MAIN, MAIN_TWICE};
 
 #[test]
 fn an_offset_too_large(rt: HostRuntime) -> Result<(), Fail> {

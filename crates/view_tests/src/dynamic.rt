@@ -12,7 +12,13 @@ use test_objects::{ObjectClass, object_with_names_of};
 
 /// What is found of the dynamic entries: how many there are, the tag of the fifth, the number of version definitions, whether the
 /// library is named `lib.so`, and whether `lib.so` is all that is needed.
-type Found = (Result<usize, ElfError>, Option<i64>, Option<u64>, bool, bool);
+type Found = (
+    Result<usize, ElfError>,
+    Option<i64>,
+    Option<u64>,
+    bool,
+    bool,
+);
 
 /// Finds it in a dynamic file.
 fn find<C: ElfClass>(alloc: Global, bytes: &[u8], is_dynamic: bool) -> Result<Found, AllocError> {
@@ -25,7 +31,10 @@ fn find<C: ElfClass>(alloc: Global, bytes: &[u8], is_dynamic: bool) -> Result<Fo
     let names = Sonames::new(alloc, names)?;
     let complete = has_complete_deps(&file, &names);
     let values = file.dynamic_tag_values();
-    let named = values.unwrap_or(DynamicTagValues::default()).lib_name(b"none") == b"lib.so";
+    let named = values
+        .unwrap_or(DynamicTagValues::default())
+        .lib_name(b"none")
+        == b"lib.so";
     let count = values.map(|values| values.verdefnum);
     match file.dynamic_tags() {
         Ok(entries) => Ok((
@@ -49,16 +58,28 @@ fn dynamic_entries_of_files(rt: HostRuntime) -> Result<(), Fail> {
         (&[(1, 13), (1, 99)], (Ok(2), None, Some(0), false, false)),
         (&[], (Ok(0), None, Some(0), false, true)),
     ] {
-        let parts = Parts { entries, ..WELL_FORMED };
+        let parts = Parts {
+            entries,
+            ..WELL_FORMED
+        };
         let wide = shared_object(alloc, ObjectClass::Elf64, parts)?;
         assert_eq!(rt; find::<Class64>(alloc, &wide, true)?, expected);
         let narrow = shared_object(alloc, ObjectClass::Elf32, parts)?;
         assert_eq!(rt; find::<Class32>(alloc, &narrow, true)?, expected);
     }
-    let beyond = Parts { entries: &[(1, 0x1_0000_000d), (14, 0x1_0000_000d)], ..WELL_FORMED };
+    let beyond = Parts {
+        entries: &[(1, 0x1_0000_000d), (14, 0x1_0000_000d)],
+        ..WELL_FORMED
+    };
     let wide = shared_object(alloc, ObjectClass::Elf64, beyond)?;
-    assert_eq!(rt; find::<Class64>(alloc, &wide, true)?, (Ok(2), None, Some(0), true, false));
+    assert_eq!(rt;
+        find::<Class64>(alloc, &wide, true)?,
+        (Ok(2), None, Some(0), true, false)
+    );
     let object = object_with_names_of(alloc, ObjectClass::Elf64, &[], &[])?;
-    assert_eq!(rt; find::<Class64>(alloc, &object, false)?, (Ok(0), None, None, false, true));
+    assert_eq!(rt;
+        find::<Class64>(alloc, &object, false)?,
+        (Ok(0), None, None, false, true)
+    );
     Ok(())
 }

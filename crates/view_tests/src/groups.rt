@@ -60,17 +60,80 @@ fn groups_and_their_refusals(rt: HostRuntime) -> Result<(), Fail> {
     let group = GROUP;
     let code = SectionIndex(3);
     for (flags, link, signature, words, expected) in [
-        (SHF_GROUP, 8, 1, b"".as_slice(), Err(GroupError::OtherSymbolTable { group })),
+        (
+            SHF_GROUP,
+            8,
+            1,
+            b"".as_slice(),
+            Err(GroupError::OtherSymbolTable { group }),
+        ),
         (0, 7, 3, b"", Err(GroupError::BadSignature { group })),
-        (0, 7, 1, b"\x01\0\0", Err(GroupError::Elf(ElfError::SectionData))),
+        (
+            0,
+            7,
+            1,
+            b"\x01\0\0",
+            Err(GroupError::Elf(ElfError::SectionData)),
+        ),
         (0, 7, 1, b"", Err(GroupError::EmptyGroup { group })),
-        (0, 7, 1, b"\x02\0\0\0", Err(GroupError::UnsupportedFlags { group, flags: 2 })),
-        (0, 7, 1, b"\x01\0\0\0\x09\0\0\0", Err(GroupError::InvalidMember { group, member })),
-        (0, 7, 1, b"\0\0\0\0\x0b\0\0\0", Err(GroupError::InvalidMember { group, member: SectionIndex(11) })),
-        (0, 7, 1, b"\x01\0\0\0\0\0\0\0", Err(GroupError::InvalidMember { group, member: SectionIndex(0) })),
-        (0, 7, 1, b"\x01\0\0\0\x03\0\0\0", Err(GroupError::MemberLacksFlag { group, member: code })),
-        (SHF_GROUP, 7, 1, b"\x01\0\0\0\x03\0\0\0", Ok((1, true, 1, Some(code)))),
-        (SHF_GROUP, 7, 1, b"\0\0\0\0\x03\0\0\0\x03\0\0\0", Ok((1, false, 2, Some(code)))),
+        (
+            0,
+            7,
+            1,
+            b"\x02\0\0\0",
+            Err(GroupError::UnsupportedFlags { group, flags: 2 }),
+        ),
+        (
+            0,
+            7,
+            1,
+            b"\x01\0\0\0\x09\0\0\0",
+            Err(GroupError::InvalidMember { group, member }),
+        ),
+        (
+            0,
+            7,
+            1,
+            b"\0\0\0\0\x0b\0\0\0",
+            Err(GroupError::InvalidMember {
+                group,
+                member: SectionIndex(11),
+            }),
+        ),
+        (
+            0,
+            7,
+            1,
+            b"\x01\0\0\0\0\0\0\0",
+            Err(GroupError::InvalidMember {
+                group,
+                member: SectionIndex(0),
+            }),
+        ),
+        (
+            0,
+            7,
+            1,
+            b"\x01\0\0\0\x03\0\0\0",
+            Err(GroupError::MemberLacksFlag {
+                group,
+                member: code,
+            }),
+        ),
+        (
+            SHF_GROUP,
+            7,
+            1,
+            b"\x01\0\0\0\x03\0\0\0",
+            Ok((1, true, 1, Some(code))),
+        ),
+        (
+            SHF_GROUP,
+            7,
+            1,
+            b"\0\0\0\0\x03\0\0\0\x03\0\0\0",
+            Ok((1, false, 2, Some(code))),
+        ),
         (0, 7, 1, b"\x01\0\0\0", Ok((1, true, 0, None))),
     ] {
         let wide = object_with_group(alloc, ObjectClass::Elf64, flags, link, signature, words)?;

@@ -8,7 +8,9 @@ use elf_view::{File, FileKind};
 use elf_words::{ET_REL, ElfClass, SHF_COMPRESSED, SHT_NOBITS, SymFields};
 use std::alloc::{AllocError, Global};
 use std::test::Fail;
-use test_objects::{ObjectClass, SET_OF_MAIN, Section, UNIT, object_of_class, object_with_names_of, plain};
+use test_objects::{
+    ObjectClass, SET_OF_MAIN, Section, UNIT, object_of_class, object_with_names_of, plain,
+};
 
 #[test]
 fn files_of_a_kind(rt: HostRuntime) -> Result<(), Fail> {
@@ -22,7 +24,10 @@ fn files_of_a_kind(rt: HostRuntime) -> Result<(), Fail> {
         (FileKind::ElfObject, other, Err(ElfError::Machine)),
     ] {
         let file = File::<Class64>::parse(&bytes, kind, machine);
-        assert_eq!(rt; file.map(|file| file.is_dynamic() && file.eflags() == 0), is_dynamic);
+        assert_eq!(rt;
+            file.map(|file| file.is_dynamic() && file.eflags() == 0),
+            is_dynamic
+        );
     }
     let cut = bytes.get(..63).unwrap_or(&[]);
     let file = File::<Class64>::parse(cut, FileKind::ElfObject, other);
@@ -37,16 +42,28 @@ fn shown_names(rt: HostRuntime) -> Result<(), Fail> {
     let Ok(file) = File::<Class64>::parse_bytes(&bytes, false) else {
         return Ok(assert!(rt; false));
     };
-    for (index, shown) in [(3, b".text".as_slice()), (9, b"<index 9>"), (0, b""), (12345, b"<index 12345>")] {
+    for (index, shown) in [
+        (3, b".text".as_slice()),
+        (9, b"<index 9>"),
+        (0, b""),
+        (12345, b"<index 12345>"),
+    ] {
         let name = file.section_display_name(alloc, SectionIndex(index))?;
         assert_eq!(rt; name.as_slice(), shown);
     }
-    assert_eq!(rt; file.section_groups(alloc).map(|groups| groups.len()), Ok(0));
+    assert_eq!(rt;
+        file.section_groups(alloc).map(|groups| groups.len()),
+        Ok(0)
+    );
     Ok(())
 }
 
 /// The sizes and alignments of the sections 1 to 4 of a file, and the errors of copying them into ten bytes.
-type Sizes = [(Result<u64, ElfError>, Result<u64, ElfError>, Option<ElfError>); 4];
+type Sizes = [(
+    Result<u64, ElfError>,
+    Result<u64, ElfError>,
+    Option<ElfError>,
+); 4];
 
 /// Returns an object with a plain section of ten bytes, a compressed one, one that is too short for its header, and one of the type NOBITS.
 fn compressed_object(alloc: Global, class: ObjectClass) -> Result<Vec<u8>, AllocError> {
@@ -60,7 +77,10 @@ fn compressed_object(alloc: Global, class: ObjectClass) -> Result<Vec<u8>, Alloc
         plain(b".a", 0, &[7; 10]),
         plain(b".b", SHF_COMPRESSED, header),
         plain(b".c", SHF_COMPRESSED, b"\x01\0\0\0"),
-        Section { section_type: SHT_NOBITS, ..plain(b".d", 0, &[]) },
+        Section {
+            section_type: SHT_NOBITS,
+            ..plain(b".d", 0, &[])
+        },
     ];
     object_of_class(alloc, class, ET_REL, 62, &sections)
 }
@@ -75,7 +95,11 @@ fn sizes<C: ElfClass>(bytes: &[u8]) -> Option<Sizes> {
             Ok(_) => None,
             Err(error) => Some(error),
         };
-        *slot = (file.section_size(&header), file.section_alignment(&header), error);
+        *slot = (
+            file.section_size(&header),
+            file.section_alignment(&header),
+            error,
+        );
     }
     Some(found)
 }
@@ -132,7 +156,10 @@ fn symbols<C: ElfClass>(bytes: &[u8]) -> Option<(usize, u64)> {
     if file.symbols_iter().len() != count || file.num_symbols() != count {
         return None;
     }
-    Some((count, file.symbol_offset_in_section(&symbol, SectionIndex(1))))
+    Some((
+        count,
+        file.symbol_offset_in_section(&symbol, SectionIndex(1)),
+    ))
 }
 
 #[test]

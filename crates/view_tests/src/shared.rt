@@ -102,8 +102,20 @@ pub(crate) fn shared_object(
             linked(SHT_DYNSYM, b".dynsym".as_slice(), 2, 1, symbols.as_slice()),
             linked(SHT_STRTAB, b".dynstr", 0, 0, STRINGS),
             linked(SHT_GNU_VERSYM, b".gnu.version", 1, 0, parts.versions),
-            linked(SHT_GNU_VERDEF, b".gnu.version_d", parts.strings, parts.definition_count, parts.definitions),
-            linked(SHT_GNU_VERNEED, b".gnu.version_r", parts.strings, 1, parts.needs),
+            linked(
+                SHT_GNU_VERDEF,
+                b".gnu.version_d",
+                parts.strings,
+                parts.definition_count,
+                parts.definitions,
+            ),
+            linked(
+                SHT_GNU_VERNEED,
+                b".gnu.version_r",
+                parts.strings,
+                1,
+                parts.needs,
+            ),
             linked(SHT_DYNAMIC, b".dynamic", 2, 0, entries.as_slice()),
         ],
     )

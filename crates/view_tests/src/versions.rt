@@ -40,12 +40,19 @@ fn say<C: ElfClass>(
             Err(_) => format!(in alloc; "unreadable")?,
         },
         needed: format!(in alloc; "{needed}")?,
-        text: file.symbol_version_debug(alloc, index)?.unwrap_or(Vec::new(alloc)),
+        text: file
+            .symbol_version_debug(alloc, index)?
+            .unwrap_or(Vec::new(alloc)),
     })
 }
 
 /// Says it of the symbol at an index of a shared object.
-fn said(alloc: Global, class: ObjectClass, bytes: &[u8], index: usize) -> Result<Said, VersionError> {
+fn said(
+    alloc: Global,
+    class: ObjectClass,
+    bytes: &[u8],
+    index: usize,
+) -> Result<Said, VersionError> {
     match class {
         ObjectClass::Elf64 => {
             let file = File::<Class64>::parse_bytes(bytes, true).map_err(VersionError::Elf)?;
@@ -87,7 +94,10 @@ fn versions_of_symbols(rt: HostRuntime) -> Result<(), Fail> {
 /// Returns why the names of the definitions and those of the needs of a shared object are refused.
 fn refusals(alloc: Global, bytes: &[u8]) -> (Option<VersionError>, Option<VersionError>) {
     match File::<Class64>::parse_bytes(bytes, true) {
-        Ok(file) => (file.get_version_names(alloc).err(), file.verneed_table(alloc).err()),
+        Ok(file) => (
+            file.get_version_names(alloc).err(),
+            file.verneed_table(alloc).err(),
+        ),
         Err(error) => (Some(VersionError::Elf(error)), None),
     }
 }
@@ -106,16 +116,76 @@ fn malformed_versions(rt: HostRuntime) -> Result<(), Fail> {
     }
     for (parts, expected) in [
         (WELL_FORMED, (None, None)),
-        (Parts { definitions: DEFINITIONS.get(..63).unwrap_or(&[]), ..WELL_FORMED }, (None, None)),
-        (Parts { definitions: DEFINITIONS.get(..55).unwrap_or(&[]), ..WELL_FORMED }, (malformed, None)),
-        (Parts { definition_count: 1, ..WELL_FORMED }, (None, None)),
-        (Parts { definitions: &above, ..WELL_FORMED }, (Some(VersionError::BadIndex(3)), None)),
-        (Parts { definitions: &nameless, ..WELL_FORMED }, (malformed, None)),
-        (Parts { needs: NEEDS.get(..47).unwrap_or(&[]), ..WELL_FORMED }, (None, malformed)),
-        (Parts { needs: &[], ..WELL_FORMED }, (None, malformed)),
-        (Parts { strings: 0, ..WELL_FORMED }, (malformed, malformed)),
-        (Parts { strings: 9, ..WELL_FORMED }, (malformed, malformed)),
-        (Parts { versions: b"\0", ..WELL_FORMED }, (malformed, None)),
+        (
+            Parts {
+                definitions: DEFINITIONS.get(..63).unwrap_or(&[]),
+                ..WELL_FORMED
+            },
+            (None, None),
+        ),
+        (
+            Parts {
+                definitions: DEFINITIONS.get(..55).unwrap_or(&[]),
+                ..WELL_FORMED
+            },
+            (malformed, None),
+        ),
+        (
+            Parts {
+                definition_count: 1,
+                ..WELL_FORMED
+            },
+            (None, None),
+        ),
+        (
+            Parts {
+                definitions: &above,
+                ..WELL_FORMED
+            },
+            (Some(VersionError::BadIndex(3)), None),
+        ),
+        (
+            Parts {
+                definitions: &nameless,
+                ..WELL_FORMED
+            },
+            (malformed, None),
+        ),
+        (
+            Parts {
+                needs: NEEDS.get(..47).unwrap_or(&[]),
+                ..WELL_FORMED
+            },
+            (None, malformed),
+        ),
+        (
+            Parts {
+                needs: &[],
+                ..WELL_FORMED
+            },
+            (None, malformed),
+        ),
+        (
+            Parts {
+                strings: 0,
+                ..WELL_FORMED
+            },
+            (malformed, malformed),
+        ),
+        (
+            Parts {
+                strings: 9,
+                ..WELL_FORMED
+            },
+            (malformed, malformed),
+        ),
+        (
+            Parts {
+                versions: b"\0",
+                ..WELL_FORMED
+            },
+            (malformed, None),
+        ),
     ] {
         let bytes = shared_object(alloc, ObjectClass::Elf64, parts)?;
         assert_eq!(rt; refusals(alloc, &bytes), expected);
@@ -154,7 +224,11 @@ fn chains_of_definitions(rt: HostRuntime) -> Result<(), Fail> {
         (truncated, 3, Some((1, true))),
         (b"", 1, Some((0, true))),
     ] {
-        let parts = Parts { definitions, definition_count, ..WELL_FORMED };
+        let parts = Parts {
+            definitions,
+            definition_count,
+            ..WELL_FORMED
+        };
         let wide = shared_object(alloc, ObjectClass::Elf64, parts)?;
         assert_eq!(rt; chain::<Class64>(&wide), expected);
         let narrow = shared_object(alloc, ObjectClass::Elf32, parts)?;
@@ -169,14 +243,16 @@ fn has_no_versions<C: ElfClass>(alloc: Global, bytes: &[u8]) -> Result<bool, Ver
     let names = file.get_version_names(alloc)?;
     let needed = file.verneed_table(alloc)?;
     let text = file.symbol_version_debug(alloc, SymbolIndex(0))?;
-    Ok(names.len() == 1
-        && names.get(0).is_none()
-        && needed.version_name(SymbolIndex(0)).is_none()
-        && text.is_none()
-        && file.verdef().is_none()
-        && file.verneed().is_none()
-        && file.verdefnum() == 0
-        && file.symbol_versions().len() == 0)
+    Ok(
+        names.len() == 1
+            && names.get(0).is_none()
+            && needed.version_name(SymbolIndex(0)).is_none()
+            && text.is_none()
+            && file.verdef().is_none()
+            && file.verneed().is_none()
+            && file.verdefnum() == 0
+            && file.symbol_versions().len() == 0,
+    )
 }
 
 #[test]
@@ -207,7 +283,10 @@ fn names_of_definitions(rt: HostRuntime) -> Result<(), Fail> {
     let bytes = shared_object(alloc, ObjectClass::Elf64, WELL_FORMED)?;
     let expected = (3, [None, Some(true), Some(true), None]);
     assert_eq!(rt; names_by_index(alloc, &bytes), Ok(expected));
-    let parts = Parts { definition_count: 0, ..WELL_FORMED };
+    let parts = Parts {
+        definition_count: 0,
+        ..WELL_FORMED
+    };
     let bytes = shared_object(alloc, ObjectClass::Elf64, parts)?;
     assert_eq!(rt; names_by_index(alloc, &bytes), Ok((1, [None; 4])));
     Ok(())

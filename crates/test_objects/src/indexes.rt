@@ -18,6 +18,24 @@ pub const MAIN_8: [u8; 69] = *b"\
     \0\0\0\0\0\0\0\0\x08\0\0\0\0\0\0\0\
     \x01\0\0\0\0\0\0\x30main\0";
 
+/// The index of that unit and of one of twelve bytes after it, which both publish `main`: its header; the CU list, at 28;
+/// two slots, at 60; the shortcut table, at 76; the constant pool, at 84.
+pub const MAIN_TWICE: [u8; 101] = *b"\
+    \x09\0\0\0\x1c\0\0\0\x3c\0\0\0\x3c\0\0\0\x3c\0\0\0\x4c\0\0\0\x54\0\0\0\
+    \0\0\0\0\0\0\0\0\x0c\0\0\0\0\0\0\0\
+    \x0c\0\0\0\0\0\0\0\x0c\0\0\0\0\0\0\0\
+    \0\0\0\0\0\0\0\0\x0c\0\0\0\0\0\0\0\
+    \0\0\0\0\0\0\0\0\
+    \x02\0\0\0\0\0\0\x30\x01\0\0\x30main\0";
+
+/// An index of one unit of twelve bytes with one address entry, of the addresses 4096 to 4112, and no name: its header; the
+/// CU list, at 28; the address area, at 44; no slot; the shortcut table, at 64.
+pub const PLACED: [u8; 72] = *b"\
+    \x09\0\0\0\x1c\0\0\0\x2c\0\0\0\x2c\0\0\0\x40\0\0\0\x40\0\0\0\x48\0\0\0\
+    \0\0\0\0\0\0\0\0\x0c\0\0\0\0\0\0\0\
+    \0\x10\0\0\0\0\0\0\x10\x10\0\0\0\0\0\0\0\0\0\0\
+    \0\0\0\0\0\0\0\0";
+
 /// Returns an index with other bytes at an offset.
 pub fn with_bytes(
     alloc: Global,
