@@ -1,15 +1,13 @@
 -- Names with their values, in the order of first publication.
-use Rattle.std.proofs.Common.{◌≡◌, ◌≢◌, ℕ, zero, suc, ◌+◌, Bool, true, false, cond, not, List, [], ◌∷◌, ◌++◌, map, slice_get, Some, None, is_some, refl, sym, ap, ◌∙◌, subst, arith, Vec, Global, Bor, true≢false, append_assoc, inl, inr}
-use Rattle.std.specs.List.{filter, position_or_len}
+use Rattle.std.proofs.Common.{◌≡◌, ℕ, Bool, true, false, cond, not, List, [], ◌∷◌, ◌++◌, map, refl, sym, ap, ◌∙◌, subst, inl, inr}
+use Rattle.std.specs.List.{filter}
 use Rattle.std.specs.Str.{bytes_eq}
-use Rattle.std.specs.Map.{keys_of, values_of as values_in, lookup}
 use Rattle.std.proofs.lemmas.Bool.{cases_Bool, cond-true, cond-false, false_from_ne_true}
 use Rattle.std.proofs.lemmas.Slice.Eq.{bytes_eq-Decides}
-use Rattle.std.proofs.lemmas.List.{append-nil, map-append, map_push}
+use Rattle.std.proofs.lemmas.List.{map-append}
 use Rattle.std.proofs.lemmas.List.Elements.{filter-append}
-use Rattle.indexmap.specs.IndexMap.{insert_entry, set_value_at}
 use Rattle.gdb_index_format.specs.Published.{firsts}
-use Rattle.gdb_scan.specs.Groups.{names_of, values_of, groups, shown, add, add_all, add_list}
+use Rattle.gdb_scan.specs.Groups.{names_of, values_of}
 
 abbrev pub Name : Type 0
 Name = List ℕ
@@ -139,12 +137,6 @@ Lacks-from_firsts n (m ∷ ns) h = (h.0, Lacks-from_firsts n ns (Lacks-restored 
 
 -- ---- values
 
-abbrev Key : Type 0
-Key = Bor Name
-
-abbrev same : Key → Key → Bool
-same x y = bytes_eq x.now y.now
-
 module _ {X : Type 0} where
   pub value-same : (n : Name) (p : Name × X) (ps : List (Name × X)) → bytes_eq p.0 n ≡ true → values_of n (p ∷ ps) ≡ p.1 ∷ values_of n ps
   value-same n p ps e = ap (map (λ (q : Name × X). q.1)) (cond-true (bytes_eq p.0 n) (p ∷ filter (λ q. bytes_eq q.0 n) ps) (filter (λ q. bytes_eq q.0 n) ps) e)
@@ -160,10 +152,10 @@ module _ {X : Type 0} where
   values_absent n (p ∷ ps) h = value-other n p ps (differ-sym n p.0 h.0) ∙ values_absent n ps h.1
 
   -- the values of one more pair
-  abbrev one_more : Name → X → Name → List X
+  abbrev pub one_more : Name → X → Name → List X
   one_more n x m = cond (bytes_eq n m) (x ∷ []) []
 
-  values-push : (m n : Name) (x : X) (ps : List (Name × X)) → values_of m (ps ++ (n, x) ∷ []) ≡ values_of m ps ++ one_more n x m
+  pub values-push : (m n : Name) (x : X) (ps : List (Name × X)) → values_of m (ps ++ (n, x) ∷ []) ≡ values_of m ps ++ one_more n x m
   values-push m n x ps =
       values-append m ps ((n, x) ∷ [])
       ∙ ap (λ xs. values_of m ps ++ xs) (elim (cases_Bool (bytes_eq n m)) [
@@ -171,122 +163,5 @@ module _ {X : Type 0} where
         | inr other ↦ value-other m (n, x) [] other ∙ sym (cond-false (bytes_eq n m) (x ∷ []) [] other)
       ])
 
-  -- ---- one more value
-
   abbrev pub tabled : (Name → List X) → List Name → List (Name × List X)
   tabled f fs = map (λ m. (m, f m)) fs
-
-  tabled_lacks : (f : Name → List X) (n : Name) (x : X) (fs : List Name) → Lacks n fs → tabled (λ m. f m ++ one_more n x m) fs ≡ tabled f fs
-  tabled_lacks f n x [] h = refl
-  tabled_lacks f n x (m ∷ fs) h =
-      ap (λ (v : List X). (m, f m ++ v) ∷ tabled (λ m. f m ++ one_more n x m) fs) (cond-false (bytes_eq n m) (x ∷ []) [] h.0)
-      ∙ ap (λ (v : List X). (m, v) ∷ tabled (λ m. f m ++ one_more n x m) fs) (append-nil (f m))
-      ∙ ap (λ gs. (m, f m) ∷ gs) (tabled_lacks f n x fs h.1)
-
-  add-tabled : (f : Name → List X) (n : Name) (x : X) (fs : List Name) → Differ fs → (Lacks n fs → f n ≡ []) → add (tabled f fs) n x ≡ tabled (λ m. f m ++ one_more n x m) (push_new fs n)
-  add-tabled f n x [] d absent =
-      sym (ap (λ (v : List X). (n, f n ++ v) ∷ []) (cond-true (bytes_eq n n) (x ∷ []) [] (eq_same n)) ∙ ap (λ (v : List X). (n, v ++ x ∷ []) ∷ []) (absent tt))
-  add-tabled f n x (m ∷ fs) d absent =
-      elim (cases_Bool (bytes_eq n m)) [
-        | inl same ↦
-            cond-true (bytes_eq n m) ((m, f m ++ x ∷ []) ∷ tabled f fs) ((m, f m) ∷ add (tabled f fs) n x) same
-            ∙ sym (
-            ap (tabled (λ m. f m ++ one_more n x m)) (push-same n m fs same)
-            ∙ ap (λ (v : List X). (m, f m ++ v) ∷ tabled (λ m. f m ++ one_more n x m) fs) (cond-true (bytes_eq n m) (x ∷ []) [] same)
-            ∙ ap (λ gs. (m, f m ++ x ∷ []) ∷ gs) (tabled_lacks f n x fs (subst (λ k. Lacks k fs) (sym (same_from n m same)) d.0))
-            )
-        | inr other ↦
-            cond-false (bytes_eq n m) ((m, f m ++ x ∷ []) ∷ tabled f fs) ((m, f m) ∷ add (tabled f fs) n x) other
-            ∙ ap (λ gs. (m, f m) ∷ gs) (add-tabled f n x fs d.1 (λ lacks. absent (other, lacks)))
-            ∙ sym (
-            ap (tabled (λ m. f m ++ one_more n x m)) (push-other n m fs other)
-            ∙ ap (λ (v : List X). (m, f m ++ v) ∷ tabled (λ m. f m ++ one_more n x m) (push_new fs n)) (cond-false (bytes_eq n m) (x ∷ []) [] other)
-            ∙ ap (λ (v : List X). (m, v) ∷ tabled (λ m. f m ++ one_more n x m) (push_new fs n)) (append-nil (f m))
-            )
-      ]
-
-  pub groups-add : (ps : List (Name × X)) (n : Name) (x : X) → add (groups ps) n x ≡ groups (ps ++ (n, x) ∷ [])
-  groups-add ps n x =
-      add-tabled (λ m. values_of m ps) n x (firsts (names_of ps)) (Differ-firsts (names_of ps)) (λ lacks. values_absent n ps (Lacks-from_firsts n (names_of ps) lacks))
-      ∙ (λ i. tabled (λ m. sym (values-push m n x ps) i) (push_new (firsts (names_of ps)) n))
-      ∙ ap (tabled (λ m. values_of m (ps ++ (n, x) ∷ []))) (sym (ap firsts (map_push (λ (p : Name × X). p.0) ps (n, x)) ∙ firsts-push (names_of ps) n))
-
-  pub groups-add_all : (ps qs : List (Name × X)) → add_all (groups ps) qs ≡ groups (ps ++ qs)
-  groups-add_all ps [] = ap groups (sym (append-nil ps))
-  groups-add_all ps (q ∷ qs) =
-      ap (λ gs. add_all gs qs) (groups-add ps q.0 q.1) ∙ groups-add_all (ps ++ q ∷ []) qs ∙ ap groups (append_assoc ps (q ∷ []) qs)
-
-  pub add_all-append : (gs : List (Name × List X)) (ps qs : List (Name × X)) → add_all gs (ps ++ qs) ≡ add_all (add_all gs ps) qs
-  add_all-append gs [] qs = refl
-  add_all-append gs (p ∷ ps) qs = add_all-append (add gs p.0 p.1) ps qs
-
-  -- ---- a map's entries
-
-  pub add_list-one : (gs : List (Name × List X)) (n : Name) (x : X) → add gs n x ≡ add_list gs n (x ∷ [])
-  add_list-one [] n x = refl
-  add_list-one (g ∷ gs) n x = ap (λ (l : List (Name × List X)). cond (bytes_eq n g.0) ((g.0, g.1 ++ x ∷ []) ∷ gs) (g ∷ l)) (add_list-one gs n x)
-
-  add_list-more : (gs : List (Name × List X)) (n : Name) (xs : List X) (x : X) → add (add_list gs n xs) n x ≡ add_list gs n (xs ++ x ∷ [])
-  add_list-more [] n xs x = cond-true (bytes_eq n n) ((n, xs ++ x ∷ []) ∷ []) ((n, xs) ∷ add [] n x) (eq_same n)
-  add_list-more (g ∷ gs) n xs x =
-      elim (cases_Bool (bytes_eq n g.0)) [
-        | inl here ↦
-            ap (λ l. add l n x) (cond-true (bytes_eq n g.0) ((g.0, g.1 ++ xs) ∷ gs) (g ∷ add_list gs n xs) here)
-            ∙ cond-true (bytes_eq n g.0) ((g.0, (g.1 ++ xs) ++ x ∷ []) ∷ gs) ((g.0, g.1 ++ xs) ∷ add gs n x) here
-            ∙ ap (λ (l : List X). (g.0, l) ∷ gs) (append_assoc g.1 xs (x ∷ []))
-            ∙ sym (cond-true (bytes_eq n g.0) ((g.0, g.1 ++ (xs ++ x ∷ [])) ∷ gs) (g ∷ add_list gs n (xs ++ x ∷ [])) here)
-        | inr other ↦
-            ap (λ l. add l n x) (cond-false (bytes_eq n g.0) ((g.0, g.1 ++ xs) ∷ gs) (g ∷ add_list gs n xs) other)
-            ∙ cond-false (bytes_eq n g.0) ((g.0, g.1 ++ x ∷ []) ∷ add_list gs n xs) (g ∷ add (add_list gs n xs) n x) other
-            ∙ ap (λ l. g ∷ l) (add_list-more gs n xs x)
-            ∙ sym (cond-false (bytes_eq n g.0) ((g.0, g.1 ++ (xs ++ x ∷ [])) ∷ gs) (g ∷ add_list gs n (xs ++ x ∷ [])) other)
-      ]
-
-  add_list-all : (gs : List (Name × List X)) (n : Name) (xs ys : List X) → add_all (add_list gs n xs) (map (λ y. (n, y)) ys) ≡ add_list gs n (xs ++ ys)
-  add_list-all gs n xs [] = ap (add_list gs n) (sym (append-nil xs))
-  add_list-all gs n xs (y ∷ ys) =
-      ap (λ l. add_all l (map (λ z. (n, z)) ys)) (add_list-more gs n xs y)
-      ∙ add_list-all gs n (xs ++ y ∷ []) ys
-      ∙ ap (add_list gs n) (append_assoc xs (y ∷ []) ys)
-
-  -- values of one name, published one by one
-  pub add_all-is_list : (gs : List (Name × List X)) (n : Name) (xs : List X) → xs ≢ [] → add_all gs (map (λ x. (n, x)) xs) ≡ add_list gs n xs
-  add_all-is_list gs n [] some = absurd (some refl)
-  add_all-is_list gs n (x ∷ xs) some = ap (λ l. add_all l (map (λ y. (n, y)) xs)) (add_list-one gs n x) ∙ add_list-all gs n (x ∷ []) xs
-
-  -- a new name goes last
-  pub shown-insert : (es : List (Key × Vec X Global)) (k : Key) (v : Vec X Global) (x : List X) → v.items ≡ x → is_some (lookup (same k) es) ≡ false → shown (insert_entry same es k v) ≡ add_list (shown es) k.now x
-  shown-insert [] k v x items absent = λ i. (k.now, items i) ∷ []
-  shown-insert (e ∷ es) k v x items absent = by (same k e.0) refl (λ later. shown-insert es k v x items later)
-    where
-      by : (b : Bool) → same k e.0 ≡ b → (is_some (lookup (same k) es) ≡ false → shown (insert_entry same es k v) ≡ add_list (shown es) k.now x) → shown (insert_entry same (e ∷ es) k v) ≡ add_list (shown (e ∷ es)) k.now x
-      by true is rest = absurd (true≢false (sym (ap (λ b. is_some (cond b (Some e.1) (lookup (same k) es))) is) ∙ absent))
-      by false is rest =
-          let later : is_some (lookup (same k) es) ≡ false = sym (ap (λ b. is_some (cond b (Some e.1) (lookup (same k) es))) is) ∙ absent in
-          ap (λ b. shown (cond b ((e.0, v) ∷ es) (e ∷ insert_entry same es k v))) is
-          ∙ ap (λ (l : List (Name × List X)). (e.0.now, e.1.items) ∷ l) (rest later)
-          ∙ sym (ap (λ b. cond b ((e.0.now, e.1.items ++ x) ∷ shown es) ((e.0.now, e.1.items) ∷ add_list (shown es) k.now x)) is)
-
-  -- a value of a name that is there joins that name's values
-  pub shown-set : (es : List (Key × Vec X Global)) (k : Key) (i : ℕ) (old w : Vec X Global) (x : List X) → position_or_len (same k) (keys_of es) ≡ i → slice_get (values_in es) i ≡ Some old → w.items ≡ old.items ++ x → shown (set_value_at es i w) ≡ add_list (shown es) k.now x
-  shown-set [] k i old w x found at items = absurd (cc at)
-  shown-set (e ∷ es) k zero old w x found at items = by (same k e.0) refl
-    where
-      by : (b : Bool) → same k e.0 ≡ b → shown (set_value_at (e ∷ es) zero w) ≡ add_list (shown (e ∷ es)) k.now x
-      by true is =
-          let same_values : e.1 ≡ old = cc at in
-          (λ j. (e.0.now, (items ∙ ap (λ (v : Vec X Global). v.items ++ x) (sym same_values)) j) ∷ shown es)
-          ∙ sym (ap (λ b. cond b ((e.0.now, e.1.items ++ x) ∷ shown es) ((e.0.now, e.1.items) ∷ add_list (shown es) k.now x)) is)
-      by false is = let no : 1 + position_or_len (same k) (keys_of es) ≡ zero = sym (ap (λ b. cond (not b) (1 + position_or_len (same k) (keys_of es)) 0) is) ∙ found in absurd (omega (arith, no))
-  shown-set (e ∷ es) k (suc i) old w x found at items = by (same k e.0) refl (λ there. shown-set es k i old w x there at items)
-    where
-      by : (b : Bool) → same k e.0 ≡ b → (position_or_len (same k) (keys_of es) ≡ i → shown (set_value_at es i w) ≡ add_list (shown es) k.now x) → shown (set_value_at (e ∷ es) (suc i) w) ≡ add_list (shown (e ∷ es)) k.now x
-      by true is rest = let no : zero ≡ suc i = sym (ap (λ b. cond (not b) (1 + position_or_len (same k) (keys_of es)) 0) is) ∙ found in absurd (omega (arith, no))
-      by false is rest =
-          let more : 1 + position_or_len (same k) (keys_of es) ≡ suc i = sym (ap (λ b. cond (not b) (1 + position_or_len (same k) (keys_of es)) 0) is) ∙ found in
-          ap (λ (l : List (Name × List X)). (e.0.now, e.1.items) ∷ l) (rest (omega (arith, more)))
-          ∙ sym (ap (λ b. cond b ((e.0.now, e.1.items ++ x) ∷ shown es) ((e.0.now, e.1.items) ∷ add_list (shown es) k.now x)) is)
-
-pub index_from_some : (b : Bool) (n i : ℕ) → Some i ≡ cond b (Some n) None → n ≡ i
-index_from_some true n i is = cc is
-index_from_some false n i is = absurd (cc is)

@@ -7,7 +7,6 @@ pub mod Bucketing
 pub mod Causes
 pub mod Gathering
 pub mod Sounding
-pub mod Hashing
 pub mod OneCause
 pub mod OneScan
 pub mod Assigning

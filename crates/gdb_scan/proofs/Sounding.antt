@@ -25,15 +25,17 @@ use Rattle.dwarf_sections.specs.UnitSearch.{Ascend, unit_at}
 use Rattle.gdb_scan.specs.declared.mark.Mark.{Mark}
 use Rattle.gdb_scan.specs.Buckets.{in_buckets}
 use Rattle.gdb_scan.specs.Groups.{names_of, values_of, groups}
-use Rattle.gdb_scan.specs.Marks.{marks_at, marks_in, marks_of}
+use Rattle.gdb_scan.specs.declared.mark.Publication.{Publication}
+use Rattle.gdb_scan.specs.Marks.{all_marked, marks_at, marks_in, marks_of}
 use Rattle.gdb_scan.specs.Scan.{ObjectScan, IsObjectName, IsSoundScan}
+use Rattle.gdb_scan.specs.ScanOf.{scan_of, AreWithin}
 use Rattle.gdb_scan.specs.PlacedIn.{IsBefore, ArePlacements, NameSections, of_object, placed_in}
 use Rattle.gdb_index_format.specs.Placed.{is_counted}
 use Rattle.gdb_scan.specs.steps.Gathered.{GathersNames}
 use Rattle.gdb_scan.specs.Cause.{IsNamesCause, FailsInNames}
 use Rattle.gdb_scan.specs.Scanned.{ScansObject}
 use Rattle.gdb_scan.specs.declared.error.GdbError.{GdbError}
-use Rattle.gdb_scan.proofs.Grouping.{Name, others, others-same, others-kept, value-same, value-other, tabled, groups-add_all}
+use Rattle.gdb_scan.proofs.Grouping.{Name, others, others-same, others-kept, value-same, value-other, tabled}
 use Rattle.gdb_scan.proofs.Pairing.{HaveSome, HaveSome-firsts}
 
 -- ---- units
@@ -161,8 +163,14 @@ groups_sound us ss clean =
     let each = marks_sound us ss (each_from_All IsClean ss clean) in
     table_sound (length us) ps (firsts (names_of ps)) (each-firsts (λ (n : Name). All (λ (c : ℕ). c ≢ 0) n) (names_of ps) (names_sound (length us) ps each)) (HaveSome-firsts ps) (within (length us) ps each)
 
-pub gathered_groups : (c : Class) (file : List ℕ) (us : List CuBoundary) (gs : List (Name × List Mark)) (h : GathersNames c file us gs) → gs ≡ groups (marks_of us h.sets)
-gathered_groups c file us gs h = h.published ∙ groups-add_all [] (marks_of us h.sets)
+units_within : (units : ℕ) (ps : List Publication) → AllByRecursion (IsMarkOf units) (all_marked ps) → AllByRecursion (λ (p : Publication). p.unit < units) ps
+unfolding IsMarkOf
+units_within units [] h = tt
+units_within units (p ∷ ps) h = (h.0.1, units_within units ps h.1)
+
+-- the publications of an object name its units
+pub gathered_within : (c : Class) (file : List ℕ) (us : List CuBoundary) (ps : List Publication) → GathersNames c file us (all_marked ps) → AreWithin us ps
+gathered_within c file us ps h = All-from_each (λ (p : Publication). p.unit < length us) ps (units_within (length us) ps (subst (AllByRecursion (IsMarkOf (length us))) (sym h.published) (marks_sound us h.sets (each_from_All IsClean h.sets h.clean))))
 
 -- ---- placements
 
@@ -206,15 +214,15 @@ each_in_buckets {X} P gs h = each_from_All P (in_buckets gs) (All-permutation P 
 
 -- ---- the scan
 
-pub sound_scan : (c : Class) (file : List ℕ) (us : List CuBoundary) (gs : List (Name × List Mark)) (placed : ℕ) → length file < 2 ^ 39 → IsUnitsOf c file us → 0 < length us → GathersNames c file us gs → 40 * length (sections c file) ≤ length file → placed ≤ length (sections c file) → IsSoundScan (record { units = us; names = in_buckets gs; placed = placed })
-sound_scan c file us gs placed small units some gathered fit few =
+pub sound_scan : (c : Class) (file : List ℕ) (us : List CuBoundary) (ps : List Publication) (placed : ℕ) → length file < 2 ^ 39 → IsUnitsOf c file us → 0 < length us → GathersNames c file us (all_marked ps) → 40 * length (sections c file) ≤ length file → placed ≤ length (sections c file) → IsSoundScan (scan_of us ps placed)
+sound_scan c file us ps placed small units some gathered fit few =
     let tiles = Tiles-from_front units.bytes us units.list.front in
     record {
       some = some;
       counted = counted_four units.bytes 0 us tiles;
       small = omega (arith, units.list.front.within, info_short c file units.bytes (info_section c file) units.there);
       placed = omega arith;
-      names = each_in_buckets (IsObjectName (length us)) gs (subst (AllByRecursion (IsObjectName (length us))) (sym (gathered_groups c file us gs gathered)) (groups_sound us gathered.sets gathered.clean));
+      names = each_in_buckets (IsObjectName (length us)) (groups (all_marked ps)) (subst (λ ms. AllByRecursion (IsObjectName (length us)) (groups ms)) (sym gathered.published) (groups_sound us gathered.sets gathered.clean));
     }
 
 beside : (c : Class) (file : List ℕ) (us : List CuBoundary) (ss : List NameSet) → 0 < length us → IsSetsOf c file ss → AreSetsBeside c file us ss
@@ -228,12 +236,12 @@ with_unit (u ∷ us) n some = refl
 with_some : (us : List CuBoundary) → 0 < length us → us ≢ []
 with_some us some none = omega (arith, some, ap length none)
 
-pub scanned : (c : Class) (file : List ℕ) (object : ℕ) (ps : List Placement) (us : List CuBoundary) (gs : List (Name × List Mark)) (placed : ℕ) (scan : ObjectScan) → scan ≡ record { units = us; names = in_buckets gs; placed = placed } → IsUnitsOf c file us → 0 < length us → GathersNames c file us gs → first_compressed c file ≡ None → placed ≡ placed_in c file object ps → 40 * length (sections c file) ≤ length file → ScansObject c file object ps (Some scan)
-scanned c file object ps us gs placed scan is units some gathered plain count room = record {
+pub scanned : (c : Class) (file : List ℕ) (object : ℕ) (ps : List Placement) (us : List CuBoundary) (names : List Publication) (placed : ℕ) (scan : ObjectScan) → scan ≡ scan_of us names placed → IsUnitsOf c file us → 0 < length us → GathersNames c file us (all_marked names) → first_compressed c file ≡ None → placed ≡ placed_in c file object ps → 40 * length (sections c file) ≤ length file → ScansObject c file object ps (Some scan)
+scanned c file object ps us names placed scan is units some gathered plain count room = record {
   held = record { units = us; sets = gathered.sets };
   is_object = record { units = units; sets = beside c file us gathered.sets some gathered.list };
   plain = plain;
-  is_scan = (ap (λ (s : ObjectScan). s.units) is, ap (λ (s : ObjectScan). s.names) is ∙ ap in_buckets (gathered_groups c file us gs gathered), with_some us some);
+  is_scan = (ap (λ (s : ObjectScan). s.units) is, ap (λ (s : ObjectScan). s.names) is ∙ ap (λ ms. in_buckets (groups ms)) gathered.published, with_some us some);
   placed = ap (λ (s : ObjectScan). s.placed) is ∙ count ∙ with_unit us (placed_in c file object ps) some;
   room = room;
 }

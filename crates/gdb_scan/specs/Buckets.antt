@@ -1,10 +1,7 @@
 -- Names with their values, by bucket.
-use Rattle.std.specs.Prelude.{◌≡◌, ℕ, ◌/◌, ◌^◌, ◌==◌, List}
-use Rattle.std.specs.List.{All, filter, flat_map, range_with_len}
-use Rattle.std.specs.List.Sorted.{IsNonDecreasingBy}
-use Rattle.gdb_index_format.specs.Hash.{name_hash}
+use Rattle.std.specs.Prelude.{ℕ, ◌==◌, List}
+use Rattle.std.specs.List.{filter, flat_map, range_with_len}
 use Rattle.gdb_index_format.specs.Published.{bucket}
-use Rattle.gdb_scan.specs.declared.mark.NameMarks.{NameMarks}
 
 module _ {X : Type 0} where
   -- those whose names have a bucket, in their order
@@ -14,8 +11,3 @@ module _ {X : Type 0} where
   -- in ascending order of bucket, and within one bucket in their order
   abbrev pub in_buckets : List (List ℕ × X) → List (List ℕ × X)
   in_buckets gs = flat_map (λ b. of_bucket b gs) (range_with_len 0 32)
-
--- Names with their hashes, in ascending order of bucket.
-pub record AreInBuckets (ns : List NameMarks) : Type 0 where
-  pub hashed : All (λ n. n.hash ≡ name_hash n.name.now) ns
-  pub ascending : IsNonDecreasingBy (λ n. n.hash / 2 ^ 27) ns

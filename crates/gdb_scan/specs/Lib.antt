@@ -2,6 +2,7 @@ pub mod Groups
 pub mod Buckets
 pub mod Marks
 pub mod Scan
+pub mod ScanOf
 pub mod PlacedIn
 pub mod Cause
 pub mod Scanned

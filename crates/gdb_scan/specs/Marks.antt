@@ -5,7 +5,7 @@ use Rattle.gdb_index_format.specs.declared.unit.CuBoundary.{CuBoundary}
 use Rattle.gdb_index_format.specs.Names.{Entry, NameSet}
 use Rattle.dwarf_sections.specs.UnitSearch.{unit_at}
 use Rattle.gdb_scan.specs.declared.mark.Mark.{Mark}
-use Rattle.gdb_scan.specs.declared.mark.NameMarks.{NameMarks}
+use Rattle.gdb_scan.specs.declared.mark.Publication.{Publication}
 
 abbrev pub mark_of : ℕ → Entry → List ℕ × Mark
 mark_of unit e = (e.name, record { unit = unit; flag = e.flag })
@@ -22,8 +22,9 @@ marks_in us s = marks_at (unit_at us s.unit) s.entries
 abbrev pub marks_of : List CuBoundary → List NameSet → List (List ℕ × Mark)
 marks_of us ss = flat_map (marks_in us) ss
 
-abbrev pub group_of : NameMarks → List ℕ × List Mark
-group_of n = (n.name.now, n.marks.items)
+-- a publication, as a name with its mark
+abbrev pub marked : Publication → List ℕ × Mark
+marked p = (p.name.now, record { unit = p.unit; flag = p.flag })
 
-abbrev pub groups_in : List NameMarks → List (List ℕ × List Mark)
-groups_in ns = map group_of ns
+abbrev pub all_marked : List Publication → List (List ℕ × Mark)
+all_marked ps = map marked ps

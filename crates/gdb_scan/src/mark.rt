@@ -1,6 +1,9 @@
 //! The names that one object publishes, before its units have numbers among those of all objects.
 
-/// One publication of a name.
+ghost use Rattle.std.specs.Prelude.{◌≡◌};
+ghost use Rattle.gdb_index_format.specs.Hash.{name_hash};
+
+/// The unit and the flag byte of one publication of a name.
 #[derive(Clone, Copy, Debug, PartialEq, Eq)]
 pub struct Mark {
     /// The index of the unit among the units of its object, from 0.
@@ -10,13 +13,30 @@ pub struct Mark {
     pub flag: u8,
 }
 
-/// A name that an object publishes.
-#[derive(Debug, Drop)]
-pub struct NameMarks<'a> {
+/// One publication of a name.
+#[derive(Clone, Copy, Debug)]
+pub struct Publication<'a> {
     /// The name's bytes, without the zero byte that ends it in the file.
     pub name: &'a [u8],
+    /// The index of the unit among the units of its object, from 0.
+    pub unit: usize,
     /// The hash of the name. Its five highest bits are the bucket of the name.
     pub hash: u32,
-    /// Its publications, in the order of the file.
-    pub marks: Vec<Mark>,
+    /// The flag byte, as in `Mark`.
+    pub flag: u8,
+    ghost hashed: { hash ≡ name_hash name.now },
+}
+
+impl Publication<'_> {
+    ghost use Rattle.gdb_scan.specs.Marks.{marked};
+
+    /// Returns its unit and its flag byte.
+    pub fn mark(&self) -> Mark
+        ensures { (self.now.name.now, result) ≡ marked self.now }
+    {
+        Mark {
+            unit: self.unit,
+            flag: self.flag,
+        }
+    }
 }

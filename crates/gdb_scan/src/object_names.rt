@@ -1,111 +1,70 @@
-//! The names that one object publishes, by bucket and within one bucket in the order of first publication.
+//! The names that one object publishes, in the order of the file.
 
-ghost use Rattle.std.specs.Prelude.{◌≡◌, ℕ, List, ◌∷◌, length, map, OnOk, IfOk};
-ghost use Rattle.std.specs.List.{All};
-ghost use Rattle.gdb_index_format.specs.Hash.{name_hash};
+ghost use Rattle.std.specs.Prelude.{◌≡◌, ◌++◌, List, OnOk};
 ghost use Rattle.gdb_index_format.specs.Names.{NameSet, IsSetList};
-ghost use Rattle.dwarf_sections.specs.Clean.{IsClean};
 ghost use Rattle.dwarf_sections.specs.Entries.{IsBad};
 ghost use Rattle.dwarf_sections.specs.Sets.{set_in, sets_in};
 ghost use Rattle.dwarf_sections.specs.UnitSearch.{Ascend};
-ghost use Rattle.gdb_scan.specs.Buckets.{in_buckets, AreInBuckets};
-ghost use Rattle.gdb_scan.specs.Groups.{shown, add_all};
-ghost use Rattle.gdb_scan.specs.Marks.{marks_in, marks_of, groups_in};
+ghost use Rattle.gdb_scan.specs.Marks.{all_marked, marks_in, marks_of};
 ghost use Rattle.gdb_scan.specs.steps.Published.{PublishesSection};
 
-use crate::mark::{Mark, NameMarks};
-use crate::names::publish;
+use crate::mark::Publication;
 use dwarf_sections::{PubnamesSet, SetError, parse_pubnames_sets, unit_with_offset};
 use gdb_index::gdb_hash;
 use gdb_index_format::CuBoundary;
-use indexmap::IndexMap;
 use std::alloc::{AllocError, Global};
 
 /// Publishes the names of a set, if one of the units begins at the set's offset.
 fn publish_set<'a>(
-    names: &mut IndexMap<&'a [u8], Vec<Mark>>,
-    alloc: Global,
+    names: &mut Vec<Publication<'a>>,
     units: &[CuBoundary],
     set: &PubnamesSet<'a>,
 ) -> Result<(), AllocError>
     requires { Ascend units.now }
-    ensures published { OnOk result (shown names.new.entries ≡ add_all (shown names.old.entries) (marks_in units.now (set_in set.now))) }
+    ensures published { OnOk result (all_marked names.new.items ≡ all_marked names.old.items ++ marks_in units.now (set_in set.now)) }
 {
     let Some(unit) = unit_with_offset(units, set.debug_info_offset) else {
         return Ok(());
     };
+    names.reserve(set.entries.len())?;
     for entry in &set.entries {
-        publish(
-            names,
-            alloc,
-            entry.0,
-            Mark {
-                unit,
-                flag: entry.1,
-            },
-        )?;
+        names.push(Publication {
+            name: entry.0,
+            unit,
+            hash: gdb_hash(entry.0),
+            flag: entry.1,
+        })?;
     }
     Ok(())
 }
 
 /// Publishes the names of some sets.
 fn publish_sets<'a>(
-    names: &mut IndexMap<&'a [u8], Vec<Mark>>,
-    alloc: Global,
+    names: &mut Vec<Publication<'a>>,
     units: &[CuBoundary],
     sets: &[PubnamesSet<'a>],
 ) -> Result<(), AllocError>
     requires { Ascend units.now }
-    ensures published { OnOk result (shown names.new.entries ≡ add_all (shown names.old.entries) (marks_of units.now (sets_in sets.now))) }
+    ensures published { OnOk result (all_marked names.new.items ≡ all_marked names.old.items ++ marks_of units.now (sets_in sets.now)) }
 {
     for set in sets {
-        publish_set(names, alloc, units, set)?;
+        publish_set(names, units, set)?;
     }
     Ok(())
 }
 
 /// Publishes the names of a pubnames section.
 pub(crate) fn publish_section<'a>(
-    names: &mut IndexMap<&'a [u8], Vec<Mark>>,
+    names: &mut Vec<Publication<'a>>,
     alloc: Global,
     units: &[CuBoundary],
     bytes: &'a [u8],
 ) -> Result<(), SetError>
     requires { Ascend units.now }
-    ensures published { OnOk result (PublishesSection bytes.entry.now units.now (shown names.old.entries) (shown names.new.entries)) }
+    ensures published { OnOk result (PublishesSection bytes.entry.now units.now (all_marked names.old.items) (all_marked names.new.items)) }
     ensures bad { IsBad result ((sets : List NameSet) → IsSetList bytes.entry.now sets → ⊥) }
 {
     let sets = parse_pubnames_sets(alloc, bytes)?;
-    publish_sets(names, alloc, units, &sets)?;
+    publish_sets(names, units, &sets)?;
     Ok(())
-}
-
-/// Returns the entries of a map, in order, each name with its hash.
-fn hashed<'a>(
-    alloc: Global,
-    names: IndexMap<&'a [u8], Vec<Mark>>,
-) -> Result<Vec<NameMarks<'a>>, AllocError>
-    ensures { IfOk result (λ list. list.items ≡ map (λ e. record { name = e.0; hash = name_hash e.0.now; marks = e.1 }) names.entry.entries) }
-{
-    names
-        .into_iter()
-        .map(|(name, marks)| NameMarks {
-            name,
-            hash: gdb_hash(name),
-            marks,
-        })
-        .collect(alloc)
-}
-
-/// Returns the entries of a map in ascending order of bucket, and within one bucket in their order.
-pub(crate) fn listed<'a>(
-    alloc: Global,
-    names: IndexMap<&'a [u8], Vec<Mark>>,
-) -> Result<Vec<NameMarks<'a>>, AllocError>
-    ensures listed { IfOk result (λ list. groups_in list.items ≡ in_buckets (shown names.entry.entries)) }
-    ensures buckets { IfOk result (λ list. AreInBuckets list.items) }
-{
-    let mut list = hashed(alloc, names)?;
-    list.sort_by_key(|named| named.hash >> 27)?;
-    Ok(list)
 }

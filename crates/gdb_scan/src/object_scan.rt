@@ -1,47 +1,51 @@
 //! What one object gives to an index, before its compilation units (CUs) have indexes among those of all objects.
 
-ghost use Rattle.std.specs.Prelude.{◌≡◌, ℕ, ◌/◌, ◌^◌, ◌==◌};
-ghost use Rattle.std.specs.List.{filter};
-ghost use Rattle.std.specs.List.Sorted.{IsNonDecreasingBy};
-ghost use Rattle.gdb_scan.specs.Buckets.{of_bucket, AreInBuckets};
-ghost use Rattle.gdb_scan.specs.Marks.{groups_in};
+ghost use Rattle.std.specs.Prelude.{◌≡◌, ◌<◌, length};
+ghost use Rattle.std.specs.List.{All};
+ghost use Rattle.gdb_scan.specs.Buckets.{in_buckets};
+ghost use Rattle.gdb_scan.specs.Groups.{groups};
+ghost use Rattle.gdb_scan.specs.Marks.{all_marked};
 ghost use Rattle.gdb_scan.specs.Scan.{IsSoundScan};
+ghost use Rattle.gdb_scan.specs.ScanOf.{scan_of, AreWithin};
 
-use crate::mark::NameMarks;
+use crate::mark::Publication;
 use gdb_index_format::CuBoundary;
 use std::marker::Model;
 
-/// The units of an object, at least one, the names that it publishes, by bucket and within one bucket in the order of first
-/// publication, and the number of its placements that count.
+/// The units of an object, at least one, its publications of names in the order of the file, and the number of its
+/// placements that count.
 #[derive(Debug, Drop)]
 pub struct PerObjectScan<'a> {
     units: Vec<CuBoundary>,
-    names: Vec<NameMarks<'a>>,
+    publications: Vec<Publication<'a>>,
     placed: usize,
 }
 
 impl<'a> Model for PerObjectScan<'a> {
-    ghost use Rattle.gdb_scan.specs.Buckets.{AreInBuckets as AreByBucket};
-    ghost use Rattle.gdb_scan.specs.Marks.{groups_in as groups_of};
     ghost use Rattle.gdb_scan.specs.Scan.{ObjectScan, IsSoundScan as IsSound};
+    ghost use Rattle.gdb_scan.specs.ScanOf.{scan_of as object_scan, AreWithin as AreInside};
 
     ghost Value = { ObjectScan };
 
-    ghost view = { λ s. record { units = s.units.items; names = groups_of s.names.items; placed = s.placed } };
+    ghost view = { λ s. object_scan s.units.items s.publications.items s.placed };
 
-    ghost invariant = { λ s. IsSound (record { units = s.units.items; names = groups_of s.names.items; placed = s.placed }) × AreByBucket s.names.items };
+    ghost invariant = { λ s. IsSound (object_scan s.units.items s.publications.items s.placed) × AreInside s.units.items s.publications.items };
 }
 
 impl<'a> PerObjectScan<'a> {
-    /// Returns the scan with these units and names, and so many placements that count.
-    pub(crate) fn new(units: Vec<CuBoundary>, names: Vec<NameMarks<'a>>, placed: usize) -> Self
-        requires sound { IsSoundScan (record { units = units.items; names = groups_in names.items; placed = placed }) }
-        requires buckets { AreInBuckets names.items }
-        ensures { result ≡ record { units = units.items; names = groups_in names.entry.items; placed = placed } }
+    /// Returns the scan with these units and publications, and so many placements that count.
+    pub(crate) fn new(
+        units: Vec<CuBoundary>,
+        publications: Vec<Publication<'a>>,
+        placed: usize,
+    ) -> Self
+        requires sound { IsSoundScan (scan_of units.items publications.items placed) }
+        requires within { AreWithin units.items publications.items }
+        ensures { result ≡ scan_of units.items publications.entry.items placed }
     {
         PerObjectScan {
             units,
-            names,
+            publications,
             placed,
         }
     }
@@ -54,21 +58,13 @@ impl<'a> PerObjectScan<'a> {
         &self.units
     }
 
-    /// Returns the names that the object publishes, in ascending order of bucket, and within one bucket in the order of first
-    /// publication.
-    pub fn names(&self) -> &[NameMarks<'a>]
-        ensures names { groups_in result.now ≡ self.now.names }
+    /// Returns the publications of names of the object, in the order of the file.
+    pub fn publications(&self) -> &[Publication<'a>]
+        ensures names { in_buckets (groups (all_marked result.now)) ≡ self.now.names }
+        ensures within { All (λ p. p.unit < length self.now.units) result.now }
         ensures sound { IsSoundScan self.now }
     {
-        &self.names
-    }
-
-    /// Returns the names of a bucket, from 0 to 31, in the order of first publication.
-    pub fn names_of_bucket(&self, bucket: u32) -> &[NameMarks<'a>]
-        ensures names { groups_in result.now ≡ of_bucket bucket self.now.names }
-        ensures sound { IsSoundScan self.now }
-    {
-        window(&self.names, bucket)
+        &self.publications
     }
 
     /// Returns how many of the object's placements count: those with a size, of sections of code.
@@ -78,14 +74,4 @@ impl<'a> PerObjectScan<'a> {
     {
         self.placed
     }
-}
-
-/// Returns the names of a bucket, which follow one another.
-fn window<'s, 'a>(names: &'s [NameMarks<'a>], bucket: u32) -> &'s [NameMarks<'a>]
-    requires { IsNonDecreasingBy (λ n. n.hash / 2 ^ 27) names.now }
-    ensures { result.now ≡ filter (λ n. n.hash / 2 ^ 27 == bucket) names.now }
-{
-    let start = names.partition_point(|named| named.hash >> 27 < bucket);
-    let end = names.partition_point(|named| named.hash >> 27 <= bucket);
-    &names[start..end]
 }

@@ -12,7 +12,7 @@ ghost use Rattle.gdb_scan.specs.declared.error.GdbError.{GdbError as GdbError_sp
 ghost use Rattle.gdb_scan.specs.declared.error.GdbError.TheVariants.{BadElf, NoMemory};
 ghost use Rattle.gdb_scan.specs.Cause.{IsUnitCause, IsSetsCause, IsNamesCause, IsScanCause, IsRefusedFor, IsOnlyMemory};
 ghost use Rattle.gdb_scan.specs.steps.Gathered.{GathersNames};
-ghost use Rattle.gdb_scan.specs.Groups.{shown};
+ghost use Rattle.gdb_scan.specs.Marks.{all_marked};
 ghost use Rattle.gdb_scan.specs.PlacedIn.{ArePlacements, NameSections};
 ghost use Rattle.gdb_scan.specs.Scanned.{ScansObject};
 ghost use Rattle.gdb_scan.specs.steps.Published.{PublishesSection};
@@ -20,15 +20,14 @@ ghost use Rattle.gdb_scan.specs.steps.Published.{PublishesSection};
 use crate::ascending::{AscendingUnits, ascending};
 use crate::debug_sections::{debug_info, first_compressed, is_pubnames_section};
 use crate::error::{GdbError, of_names, of_units};
-use crate::mark::Mark;
-use crate::object_names::{listed, publish_section};
+use crate::mark::Publication;
+use crate::object_names::publish_section;
 use crate::object_scan::PerObjectScan;
 use crate::placed::{count_placed, placements_of};
 use dwarf_sections::parse_cu_boundaries;
 use elf_view::File;
 use elf_words::{ElfClass, SectionIndex};
 use gdb_index_format::{CuBoundary, Placement};
-use indexmap::IndexMap;
 use std::alloc::Global;
 
 /// Returns the units of an object.
@@ -67,7 +66,7 @@ fn names_data<'a, C: ElfClass>(
 
 /// Publishes the names of a pubnames section of an object.
 fn publish_names<'a>(
-    names: &mut IndexMap<&'a [u8], Vec<Mark>>,
+    names: &mut Vec<Publication<'a>>,
     alloc: Global,
     units: &[CuBoundary],
     object: usize,
@@ -75,7 +74,7 @@ fn publish_names<'a>(
     bytes: &'a [u8],
 ) -> Result<(), GdbError>
     requires { Ascend units.now }
-    ensures published { OnOk result (PublishesSection bytes.entry.now units.now (shown names.old.entries) (shown names.new.entries)) }
+    ensures published { OnOk result (PublishesSection bytes.entry.now units.now (all_marked names.old.items) (all_marked names.new.items)) }
     ensures cause { IfErr result (IsSetsCause object section bytes.entry.now) }
 {
     match publish_section(names, alloc, units, bytes) {
@@ -84,18 +83,18 @@ fn publish_names<'a>(
     }
 }
 
-/// Returns the names of an object with a unit, section by section.
+/// Returns the publications of names of an object with a unit, section by section.
 fn gather_names<'a, C: ElfClass>(
     alloc: Global,
     object: usize,
     file: &File<'a, C>,
     units: AscendingUnits<'_>,
-) -> Result<IndexMap<&'a [u8], Vec<Mark>>, GdbError>
-    ensures names { IfOk result (λ names. GathersNames C.class file.now.bytes units.entry.units.now (shown names.entries)) }
+) -> Result<Vec<Publication<'a>>, GdbError>
+    ensures names { IfOk result (λ names. GathersNames C.class file.now.bytes units.entry.units.now (all_marked names.items)) }
     ensures cause { IfErr result (IsNamesCause C.class object file.now.bytes) }
     ensures fit { OnOk result (40 * length (sections C.class file.now.bytes) ≤ length file.now.bytes) }
 {
-    let mut names = IndexMap::new(alloc);
+    let mut names = Vec::new(alloc);
     for (index, header) in file.enumerate_sections() {
         if !is_pubnames_section(file, index) {
             continue;
@@ -139,7 +138,6 @@ pub fn scan_one_object<'a, C: ElfClass>(
         return Ok(None);
     }
     let names = gather_names(alloc, object, file, ascending(&units))?;
-    let names = listed(alloc, names)?;
     let placed = count_placed(file, placements_of(object, placements));
     Ok(Some(PerObjectScan::new(units, names, placed)))
 }

@@ -18,5 +18,6 @@ pub mod NamesInOrder
 pub mod NoUnits
 pub mod OneIndex
 pub mod ListedUnits
-pub mod Tallying
+pub mod Distributing
+pub mod Vectoring
 pub mod NamedUnits

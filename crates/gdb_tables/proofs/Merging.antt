@@ -1,7 +1,7 @@
 -- Loops that merge, step by step.
 use Rattle.std.proofs.Common.{◌≡◌, ◌≢◌, ℕ, zero, suc, ◌+◌, ◌^◌, ◌<◌, ◌≤◌, List, [], ◌∷◌, ◌++◌, length, get_or, take, drop, map, Option, refl, sym, ap, subst, ◌∙◌, arith, append_assoc}
 use Rattle.std.specs.Prelude.{sum}
-use Rattle.std.specs.List.{All, AllByRecursion, flat_map, range_with_len}
+use Rattle.std.specs.List.{All, AllByRecursion}
 use Rattle.std.specs.List.Sorted.{IsPermutation, IsNonDecreasing}
 use Rattle.std.proofs.lemmas.List.{drop_more, drop_all, take_more, length-append}
 use Rattle.gdb_index_format.specs.Hash.{element_of}
@@ -13,17 +13,15 @@ use Rattle.gdb_index_format.specs.declared.unit.CuBoundary.{CuBoundary}
 use Rattle.gdb_index_format.specs.Named.{Named}
 use Rattle.gdb_index_format.specs.Published.{end_to_end, firsts, by_bucket}
 use Rattle.gdb_index_format.proofs.Pooling.{by_bucket_permutes}
-use Rattle.gdb_scan.specs.Buckets.{of_bucket, in_buckets}
-use Rattle.gdb_tables.proofs.Pooled.{each_permuted, HaveSome-permuted, tabled_in_buckets, flat_more, sorted_append, groups_of_bucket, words_next}
+use Rattle.gdb_scan.specs.Buckets.{in_buckets}
+use Rattle.gdb_tables.proofs.Pooled.{each_permuted, HaveSome-permuted, tabled_in_buckets}
 use Rattle.gdb_index_format.specs.Units.{total_length}
 use Rattle.gdb_scan.specs.declared.mark.Mark.{Mark}
-use Rattle.gdb_scan.specs.declared.mark.NameMarks.{NameMarks}
-use Rattle.gdb_scan.specs.Groups.{names_of, values_of, groups, add_all, add_list}
-use Rattle.gdb_scan.specs.Marks.{group_of, groups_in}
+use Rattle.gdb_scan.specs.Groups.{names_of, values_of, groups}
 use Rattle.gdb_tables.specs.Merged.{AreSorted}
 use Rattle.gdb_scan.specs.Scan.{ObjectScan, IsObjectName, HasSoundNames, units_in_scan, names_in_scan, placed_in_scan}
-use Rattle.gdb_tables.specs.Scans.{unit_counts, unit_total, units_in_scans, placed_total, mark_word, words_at, words_of_groups, words_from}
-use Rattle.gdb_scan.proofs.Grouping.{Name, groups-add_all, add_all-append, add_all-is_list, tabled}
+use Rattle.gdb_tables.specs.Scans.{unit_counts, unit_total, units_in_scans, placed_total, words_at, words_of_groups, words_from}
+use Rattle.gdb_scan.proofs.Grouping.{Name, tabled}
 use Rattle.gdb_scan.proofs.Pairing.{HaveSome, HaveSome-firsts}
 use Rattle.gdb_scan.proofs.Sounding.{each_from_All, All-from_each, each-append, each-firsts, each-values}
 
@@ -35,7 +33,7 @@ Scans = List (Option ObjectScan)
 front : (ss : Scans) (i : ℕ) (s : Option ObjectScan) → i < length ss → s ≡ get_or ss i s → drop i ss ≡ s ∷ drop (i + 1) ss
 front ss i s l is = drop_more ss i s l ∙ ap (λ (x : Option ObjectScan). x ∷ drop (i + 1) ss) (sym is)
 
-sum_next : (n : ℕ) (ns : List ℕ) → sum (n ∷ ns) ≡ n + sum ns
+pub sum_next : (n : ℕ) (ns : List ℕ) → sum (n ∷ ns) ≡ n + sum ns
 sum_next n ns = sum_by-cons (λ (x : ℕ). x) n ns
 
 pub count_step : (count total : ℕ) (ss : Scans) (i : ℕ) (s : Option ObjectScan) → i < length ss → s ≡ get_or ss i s → count + unit_total (drop i ss) ≡ total → count + length (units_in_scan s) + unit_total (drop (i + 1) ss) ≡ total
@@ -96,43 +94,13 @@ unit_number_of ss = length-placed 0 (units_in_scans ss) ∙ length-units ss
 
 -- ---- names
 
--- the elements of a name's marks, published at once
-pub words_published : (first : ℕ) (g : Name × List Mark) (gs : List (Name × List ℕ)) → g.1 ≢ [] → add_all gs (words_at first g) ≡ add_list gs g.0 (map (mark_word first) g.1)
-words_published first g gs some = ap (add_all gs) (tagged_words first g.0 g.1) ∙ add_all-is_list gs g.0 (map (mark_word first) g.1) (λ none. some (no_marks g.1 none)) where
-  tagged_words : (first : ℕ) (n : Name) (ms : List Mark) → words_at first (n, ms) ≡ map (λ w. (n, w)) (map (mark_word first) ms)
-  tagged_words first n [] = refl
-  tagged_words first n (m ∷ ms) = ap (λ l. (n, mark_word first m) ∷ l) (tagged_words first n ms)
-
-  no_marks : (ms : List Mark) → map (mark_word first) ms ≡ [] → ms ≡ []
-  no_marks [] e = refl
-  no_marks (m ∷ ms) e = absurd (cc e)
-
-pub named_step : (first : ℕ) (ns : List NameMarks) (i : ℕ) (n : NameMarks) (gs hs all : List (Name × List ℕ)) → i < length ns → n ≡ get_or ns i n → hs ≡ add_all gs (words_at first (group_of n)) → add_all gs (words_of_groups first (groups_in (drop i ns))) ≡ all → add_all hs (words_of_groups first (groups_in (drop (i + 1) ns))) ≡ all
-named_step first ns i n gs hs all l is step left =
-    ap (λ xs. add_all xs (words_of_groups first (groups_in (drop (i + 1) ns)))) step
-    ∙ sym (add_all-append gs (words_at first (group_of n)) (words_of_groups first (groups_in (drop (i + 1) ns))))
-    ∙ ap (λ (x : NameMarks). add_all gs (words_of_groups first (groups_in (x ∷ drop (i + 1) ns)))) is
-    ∙ sym (ap (λ xs. add_all gs (words_of_groups first (groups_in xs))) (drop_more ns i n l))
-    ∙ left
-
 pub sorted_push : (gs : List (Name × List ℕ)) (ns : List Named) (g : Name × List ℕ) (n : Named) → AreSorted gs ns → n.name ≡ g.0 → IsPermutation g.1 n.words → IsNonDecreasing n.words → AreSorted (gs ++ g ∷ []) (ns ++ n ∷ [])
 sorted_push [] [] g n h name same ascending = (name, same, ascending, tt)
 sorted_push [] (m ∷ ns) g n h name same ascending = absurd h
 sorted_push (k ∷ gs) [] g n h name same ascending = absurd h
 sorted_push (k ∷ gs) (m ∷ ns) g n h name same ascending = (h.0, h.1, h.2, sorted_push gs ns g n h.3 name same ascending)
 
--- the marks of an object's name, by their numbers among all units
-pub marks_fit : (first count : ℕ) (ns : List NameMarks) (i : ℕ) (n : NameMarks) → first + count ≤ 2 ^ 24 → AllByRecursion (IsObjectName count) (groups_in ns) → i < length ns → n ≡ get_or ns i n → All (λ m. first + m.unit < 2 ^ 24) n.marks.items × (n.marks.items ≢ [])
-marks_fit first count [] i n few sound l is = absurd (omega arith)
-marks_fit first count (x ∷ ns) zero n few sound l is = subst (λ (y : NameMarks). All (λ m. first + m.unit < 2 ^ 24) y.marks.items × (y.marks.items ≢ [])) (sym is) (λ k d m. omega (arith, All-from_each (λ (m : Mark). m.unit < count) x.marks.items sound.0.within k d m), sound.0.some)
-marks_fit first count (x ∷ ns) (suc i) n few sound l is = marks_fit first count ns i n few sound.1 (omega arith) is
-
 -- ---- all names
-
--- the names of a bucket so far, where these scans are left
-pub record Gathering (b : ℕ) (gs : List (Name × List ℕ)) (first : ℕ) (left ss : Scans) : Type 0 where
-  pub words : add_all gs (of_bucket b (words_from first left)) ≡ add_all [] (of_bucket b (words_from 0 ss))
-  pub units : first + unit_total left ≡ unit_total ss
 
 sound_push : (ss : Scans) (s : Option ObjectScan) → AllByRecursion HasSoundNames ss → HasSoundNames s → AllByRecursion HasSoundNames (ss ++ s ∷ [])
 sound_push [] s before here = (here, tt)
@@ -141,42 +109,6 @@ sound_push (x ∷ ss) s before here = (before.0, sound_push ss s before.1 here)
 -- the names of the scans so far are well formed
 pub sound_more : (ss : Scans) (i : ℕ) (s : Option ObjectScan) → i < length ss → s ≡ get_or ss i s → AllByRecursion HasSoundNames (take i ss) → HasSoundNames s → AllByRecursion HasSoundNames (take (i + 1) ss)
 sound_more ss i s l is before here = subst (AllByRecursion HasSoundNames) (ap (λ x. take i ss ++ x ∷ []) is ∙ sym (take_more ss i s l)) (sound_push (take i ss) s before here)
-
--- no object has more units than are left
-pub gathering_within : (b : ℕ) (gs : List (Name × List ℕ)) (first : ℕ) (ss : Scans) (i : ℕ) (s : Option ObjectScan) → i < length ss → s ≡ get_or ss i s → Gathering b gs first (drop i ss) ss → first + length (units_in_scan s) + unit_total (drop (i + 1) ss) ≡ unit_total ss
-gathering_within b gs first ss i s l is g = omega (arith, ap unit_total (front ss i s l is), sum_next (length (units_in_scan s)) (unit_counts (drop (i + 1) ss)), g.units)
-
--- one more scan
-pub gathering_more : (b : ℕ) (gs hs : List (Name × List ℕ)) (first n : ℕ) (ss : Scans) (i : ℕ) (s : Option ObjectScan) → i < length ss → s ≡ get_or ss i s
-    → Gathering b gs first (drop i ss) ss → n ≡ length (units_in_scan s) → hs ≡ add_all gs (words_of_groups first (of_bucket b (names_in_scan s))) → Gathering b hs (first + n) (drop (i + 1) ss) ss
-gathering_more b gs hs first n ss i s l is g units step =
-    let rest = drop (i + 1) ss in
-    record {
-      words =
-          ap (λ k. add_all hs (of_bucket b (words_from (first + k) rest))) units
-          ∙ ap (λ xs. add_all xs (of_bucket b (words_from (first + length (units_in_scan s)) rest))) step
-          ∙ sym (add_all-append gs (words_of_groups first (of_bucket b (names_in_scan s))) (of_bucket b (words_from (first + length (units_in_scan s)) rest)))
-          ∙ sym (ap (add_all gs) (words_next b first s rest))
-          ∙ sym (ap (λ xs. add_all gs (of_bucket b (words_from first xs))) (front ss i s l is))
-          ∙ g.words;
-      units = omega (arith, gathering_within b gs first ss i s l is g, units);
-    }
-
--- where none is left, these are the names of the bucket
-pub gathered_all : (b : ℕ) (gs : List (Name × List ℕ)) (first : ℕ) (ss : Scans) (i : ℕ) → length ss ≤ i → Gathering b gs first (drop i ss) ss → gs ≡ groups (of_bucket b (words_from 0 ss))
-gathered_all b gs first ss i le g =
-    sym (ap (λ xs. add_all gs (of_bucket b (words_from first xs))) (drop_all i ss le)) ∙ g.words ∙ groups-add_all [] (of_bucket b (words_from 0 ss))
-
--- ---- bucket by bucket
-
--- the names of one more bucket
-pub bucket_more : (ps : List (Name × ℕ)) (b : ℕ) (ns ms : List Named) (gs : List (Name × List ℕ)) → AreSorted (flat_map (λ k. of_bucket k (groups ps)) (range_with_len 0 b)) ns → gs ≡ groups (of_bucket b ps) → AreSorted gs ms → AreSorted (flat_map (λ k. of_bucket k (groups ps)) (range_with_len 0 (b + 1))) (ns ++ ms)
-bucket_more ps b ns ms gs before is here =
-    subst (λ hs. AreSorted hs (ns ++ ms)) (sym (flat_more (λ k. of_bucket k (groups ps)) 0 b))
-    (sorted_append (flat_map (λ k. of_bucket k (groups ps)) (range_with_len 0 b)) (of_bucket (0 + b) (groups ps)) ns ms before
-    (subst (λ hs. AreSorted hs ms) (is ∙ groups_of_bucket b ps ∙ ap (λ k. of_bucket k (groups ps)) (plain b)) here)) where
-      plain : (n : ℕ) → n ≡ 0 + n
-      plain n = omega arith
 
 IsWord : ℕ → Name × ℕ → Type 0
 IsWord limit p = All (λ (c : ℕ). c ≢ 0) p.0 × (unit_number p.1 < limit)

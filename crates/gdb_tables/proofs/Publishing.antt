@@ -28,7 +28,7 @@ words_tagged : (first : ℕ) (m : Name) (ms : List Mark) → words_at first (m, 
 words_tagged first m [] = refl
 words_tagged first m (x ∷ ms) = ap (λ ps. (m, mark_word first x) ∷ ps) (words_tagged first m ms)
 
-words_ungrouped : (first : ℕ) (gs : List (Name × List Mark)) → words_of_groups first gs ≡ mapped (mark_word first) (ungrouped gs)
+pub words_ungrouped : (first : ℕ) (gs : List (Name × List Mark)) → words_of_groups first gs ≡ mapped (mark_word first) (ungrouped gs)
 words_ungrouped first [] = refl
 words_ungrouped first (g ∷ gs) =
     ap (λ ps. ps ++ words_of_groups first gs) (words_tagged first g.0 g.1)

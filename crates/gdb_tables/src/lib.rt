@@ -4,14 +4,16 @@
 #![tactic(auto)]
 
 mod addresses;
-mod counts;
+mod buckets;
+mod element;
 mod files;
+mod hashed_name;
 mod index;
 mod laws;
 mod merge;
 mod misplaced;
-mod names;
 mod sizing;
+mod vectors;
 
 pub use addresses::build_address_entries;
 pub use dwarf_sections::{
@@ -25,8 +27,8 @@ pub use gdb_index::{
 };
 pub use gdb_index_format::{CuBoundary, IndexVersion, Placement, UnitFault};
 pub use gdb_scan::{
-    GdbError, MapError, Mark, NameMarks, PerObjectScan, build_section_cu_map, scan_causes_are_one,
-    scan_one_object,
+    GdbError, MapError, Mark, PerObjectScan, Publication, build_section_cu_map,
+    scan_causes_are_one, scan_one_object,
 };
 pub use index::{IndexTables, build_index};
 pub use laws::{

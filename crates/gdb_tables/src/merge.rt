@@ -1,30 +1,27 @@
 //! The merge of all objects' scans: the units of all objects get their numbers, and the names of all objects
 //! their CU vectors.
 
-ghost use Rattle.std.specs.Prelude.{◌≡◌, ℕ, List, ◌+◌, ◌*◌, ◌^◌, ◌<◌, ◌≤◌, ◌++◌, length, map, sum, OnOk, IfOk, IfErr};
-ghost use Rattle.std.specs.List.{All, AllByRecursion};
-ghost use Rattle.std.specs.List.Sorted.{IsPermutation, IsNonDecreasing};
+ghost use Rattle.std.specs.Prelude.{◌≡◌, List, ◌+◌, ◌*◌, ◌^◌, ◌<◌, ◌≤◌, ◌++◌, length, OnOk, IfOk, IfErr};
+ghost use Rattle.std.specs.List.{AllByRecursion};
 ghost use Rattle.gdb_index_format.specs.Named.{all_named, ListsPublished};
 ghost use Rattle.gdb_index_format.specs.Published.{Object, published, end_to_end};
 ghost use Rattle.gdb_index_format.specs.Units.{total_length};
-ghost use Rattle.gdb_scan.specs.Buckets.{of_bucket, in_buckets};
-ghost use Rattle.gdb_scan.specs.Groups.{shown, groups, add_all};
-ghost use Rattle.gdb_scan.specs.Marks.{groups_in};
-ghost use Rattle.gdb_scan.specs.Scan.{units_in_scan, names_in_scan, placed_in_scan, HasSoundNames};
-ghost use Rattle.gdb_tables.specs.Scans.{unit_counts, unit_total, units_in_scans, placed_total, words_of_groups, words_from, AreScansOf};
+ghost use Rattle.gdb_scan.specs.Buckets.{in_buckets};
+ghost use Rattle.gdb_scan.specs.Groups.{groups};
+ghost use Rattle.gdb_scan.specs.Scan.{units_in_scan, placed_in_scan, HasSoundNames};
+ghost use Rattle.gdb_tables.specs.Scans.{unit_counts, unit_total, units_in_scans, placed_total, words_from, AreScansOf};
 ghost use Rattle.gdb_index.specs.Scan.{HaveSmallWords};
 ghost use Rattle.gdb_tables.specs.Merged.{AreSorted, IsMergeOf, IsMergeCause};
 
-use crate::counts::count_marks;
-use crate::names::publish_marks;
+use crate::buckets::distributed;
+use crate::vectors::add_bucket;
 use gdb_index::GdbIndexScanResult;
 use gdb_index_format::{CuBoundary, NameWords};
-use gdb_scan::{GdbError, NameMarks, PerObjectScan};
-use indexmap::IndexMap;
+use gdb_scan::{GdbError, PerObjectScan};
 use std::alloc::{AllocError, Global};
 
 /// Returns the units of an object, none where it has no scan.
-fn units_of<'s>(scan: &'s Option<PerObjectScan<'_>>) -> &'s [CuBoundary]
+pub(crate) fn units_of<'s>(scan: &'s Option<PerObjectScan<'_>>) -> &'s [CuBoundary]
     ensures units { result.now ≡ units_in_scan scan.now }
     ensures counted { 4 * length result.now ≤ total_length result.now }
     ensures small { total_length result.now < 2 ^ 39 }
@@ -32,20 +29,6 @@ fn units_of<'s>(scan: &'s Option<PerObjectScan<'_>>) -> &'s [CuBoundary]
 {
     match scan {
         Some(scan) => scan.units(),
-        None => &[],
-    }
-}
-
-/// Returns the names of a bucket that an object publishes, none where it has no scan.
-pub(crate) fn names_of<'s, 'a>(
-    scan: &'s Option<PerObjectScan<'a>>,
-    bucket: u32,
-) -> &'s [NameMarks<'a>]
-    ensures names { groups_in result.now ≡ of_bucket bucket (names_in_scan scan.now) }
-    ensures sound { HasSoundNames scan.now }
-{
-    match scan {
-        Some(scan) => scan.names_of_bucket(bucket),
         None => &[],
     }
 }
@@ -135,89 +118,18 @@ fn placed_units(
     Ok(units)
 }
 
-/// Publishes the names of a bucket of an object whose first unit has the number `first`.
-fn publish_scan<'a>(
-    names: &mut IndexMap<&'a [u8], Vec<u32>>,
-    alloc: Global,
-    counts: &IndexMap<&'a [u8], usize>,
-    first: u32,
-    scan: &Option<PerObjectScan<'a>>,
-    bucket: u32,
-) -> Result<(), AllocError>
-    requires { first + length (units_in_scan scan.now) ≤ 2 ^ 24 }
-    ensures { OnOk result (shown names.new.entries ≡ add_all (shown names.old.entries) (words_of_groups first (of_bucket bucket (names_in_scan scan.now)))) }
-{
-    let list = names_of(scan, bucket);
-    for named in list {
-        publish_marks(names, alloc, counts, first, named)?;
-    }
-    Ok(())
-}
-
-/// Returns the elements of each name of a bucket, in input order.
-fn gather_words<'a>(
-    alloc: Global,
-    scans: &[Option<PerObjectScan<'a>>],
-    bucket: u32,
-) -> Result<IndexMap<&'a [u8], Vec<u32>>, AllocError>
-    requires { unit_total scans.now ≤ 2 ^ 24 }
-    ensures { IfOk result (λ names. shown names.entries ≡ groups (of_bucket bucket (words_from 0 scans.now))) }
-{
-    let counts = count_marks(alloc, scans, bucket)?;
-    let mut names = IndexMap::with_capacity(alloc, counts.len())?;
-    let mut first = 0;
-    for scan in scans {
-        publish_scan(&mut names, alloc, &counts, first, scan, bucket)?;
-        first += units_of(scan).len() as u32;
-    }
-    Ok(names)
-}
-
-/// Returns a name with its CU vector in ascending order.
-fn sorted_name<'a>(name: &'a [u8], mut words: Vec<u32>) -> Result<NameWords<'a>, AllocError>
-    ensures name { IfOk result (λ n. n.name.now ≡ name.now) }
-    ensures same { IfOk result (λ n. IsPermutation words.items n.words.items) }
-    ensures ascending { IfOk result (λ n. IsNonDecreasing n.words.items) }
-    ensures fits { IfOk result (λ n. All (λ w. w < 2 ^ 32) n.words.items) }
-{
-    words.sort()?;
-    Ok(NameWords { name, words })
-}
-
-/// Returns all names, each with its CU vector in ascending order.
-fn sorted_names<'a>(
-    alloc: Global,
-    names: IndexMap<&'a [u8], Vec<u32>>,
-) -> Result<Vec<NameWords<'a>>, AllocError>
-    ensures sorted { IfOk result (λ list. AreSorted (shown names.entry.entries) (all_named list.items)) }
-    ensures fit { IfOk result (λ list. HaveSmallWords (all_named list.items)) }
-{
-    let mut list = Vec::with_capacity(alloc, names.len())?;
-    for (name, words) in names {
-        let sorted = sorted_name(name, words)?;
-        list.push(sorted)?;
-    }
-    Ok(list)
-}
-
-/// The number of buckets of names.
-const BUCKETS: u32 = 32;
-
-/// Returns all names in pool order: in ascending order of bucket, and within one bucket in the order of first publication. Each
-/// bucket has a map of its own.
+/// Returns all names in pool order: in ascending order of bucket, and within one bucket in the order of first publication.
 fn pool_names<'a>(
     alloc: Global,
-    scans: &[Option<PerObjectScan<'a>>],
+    scans: Vec<Option<PerObjectScan<'a>>>,
 ) -> Result<Vec<NameWords<'a>>, AllocError>
-    requires { unit_total scans.now ≤ 2 ^ 24 }
-    ensures sorted { IfOk result (λ list. AreSorted (in_buckets (groups (words_from 0 scans.now))) (all_named list.items)) }
+    requires { unit_total scans.items ≤ 2 ^ 24 }
+    ensures sorted { IfOk result (λ list. AreSorted (in_buckets (groups (words_from 0 scans.entry.items))) (all_named list.items)) }
     ensures fit { IfOk result (λ list. HaveSmallWords (all_named list.items)) }
 {
     let mut list = Vec::new(alloc);
-    for bucket in 0..BUCKETS {
-        let words = gather_words(alloc, scans, bucket)?;
-        let mut names = sorted_names(alloc, words)?;
-        list.append(&mut names)?;
+    for elements in distributed(alloc, scans)? {
+        add_bucket(alloc, &mut list, &elements)?;
     }
     Ok(list)
 }
@@ -249,6 +161,6 @@ pub fn merge_gdb_index_scans<'a>(
     let units = placed_units(alloc, all, count as usize)?;
     let counts = list_unit_counts(alloc, all)?;
     let placed = count_placed(all);
-    let names = pool_names(alloc, all)?;
+    let names = pool_names(alloc, scans)?;
     Ok(GdbIndexScanResult::new(units, names, placed, counts))
 }

@@ -4,6 +4,7 @@ use elf_format::{Architecture, ElfError, SectionIndex};
 use elf_records64::Class64;
 use elf_view::File;
 use elf_words::SHF_COMPRESSED;
+use gdb_index::gdb_hash;
 use gdb_index_format::{CuBoundary, UnitFault};
 use gdb_scan::{GdbError, build_section_cu_map, scan_one_object, section_units};
 use std::test::Fail;
@@ -27,12 +28,12 @@ fn an_object_is_scanned(rt: HostRuntime) -> Result<(), Fail> {
     let scan = scan_one_object(alloc, 0, &file, &[])?.expect(&rt, "an object with a unit");
     assert_eq!(rt; scan.units(), [FIRST].as_slice());
     assert_eq!(rt; scan.placed(), 0);
-    assert_eq!(rt; scan.names().len(), 1);
-    for name in scan.names() {
-        assert_eq!(rt; name.name, b"main".as_slice());
-        for mark in &name.marks {
-            assert!(rt; mark.unit == 0 && mark.flag == 0x30);
-        }
+    assert_eq!(rt; scan.publications().len(), 1);
+    for publication in scan.publications() {
+        assert_eq!(rt; publication.name, b"main".as_slice());
+        assert_eq!(rt; publication.hash, gdb_hash(b"main"));
+        let mark = publication.mark();
+        assert!(rt; mark.unit == 0 && mark.flag == 0x30);
     }
     Ok(())
 }

@@ -1,7 +1,7 @@
 use Rattle.std.proofs.Common.{◌≡◌, ℕ, true, false, List, [], ◌∷◌, ◌++◌, Err, ap, sym, ◌∙◌, arith}
 use Rattle.std.proofs.lemmas.Result.{err_from_is_err_and}
 use Rattle.elf_format.specs.Section.{sections}
-use Rattle.gdb_scan.specs.Groups.{shown}
+use Rattle.gdb_scan.specs.Marks.{all_marked}
 use Rattle.gdb_scan.specs.Cause.{IsNamesCause, no_sets}
 use Rattle.gdb_scan.proofs.SectionSearch.{next_step, stands, one_more_done}
 use Rattle.gdb_scan.proofs.Causes.{holds_of, no_bytes, bad_elf}
@@ -34,7 +34,7 @@ returns-in_err-bytes-clause-cause g c =
     let none = no_bytes c.names_data.result c.in_err-bytes.field-0.0 _ (c.in_err-bytes.was {u = tt}) c.names_data.ensures.found in
     let error = c.in_err-bytes.ensures.error in
     holds_of (IsNamesCause class c.args.object file) c.from_residual.result c.in_err-bytes.field-0.0 (p.1 ∙ ap (λ e. Err e) p.2)
-    (first_bad class c.args.object file c.args.units.units.now inv.0 s c.next.new.self (shown c.loop-index.names.entries) c.in_err-bytes.field-0.0 whole (sym test ∙ passed) inv.2 (bad_elf class c.args.object file s c.in_err-bytes.field-0.0 none error))
+    (first_bad class c.args.object file c.args.units.units.now inv.0 s c.next.new.self (all_marked c.loop-index.names.items) c.in_err-bytes.field-0.0 whole (sym test ∙ passed) inv.2 (bad_elf class c.args.object file s c.in_err-bytes.field-0.0 none error))
 
 pub loop-index-preserved : goal.loop-index-preserved
 loop-index-preserved g c =
@@ -46,7 +46,7 @@ loop-index-preserved g c =
     let whole = ap (λ l. inv.0 ++ l) (sym here) ∙ inv.1 in
     let test = c.is_pubnames_section.ensures s.1 (stands inv.0 s.0 s.1 c.next.new.self (sections class file) whole) in
     let passed : c.is_pubnames_section.result ≡ true = grind arith in
-    record { parts = (inv.0 ++ s ∷ [], one_more_done inv.0 s c.next.new.self _ whole, gathers_more class file c.args.units.units.now inv.0 s c.in_ok-bytes.bytes.now (shown c.loop-index.names.entries) (shown c.publish_names.new.names.entries) (sym test ∙ passed) (sym c.in_ok-bytes.ensures.found) c.in_ok-publish_names.ensures.published inv.2) }
+    record { parts = (inv.0 ++ s ∷ [], one_more_done inv.0 s c.next.new.self _ whole, gathers_more class file c.args.units.units.now inv.0 s c.in_ok-bytes.bytes.now (all_marked c.loop-index.names.items) (all_marked c.publish_names.new.names.items) (sym test ∙ passed) (sym c.in_ok-bytes.ensures.found) c.in_ok-publish_names.ensures.published inv.2) }
 
 pub returns-in_err-publish_names-clause-cause : goal.returns-in_err-publish_names-clause-cause
 returns-in_err-publish_names-clause-cause g c =
@@ -60,4 +60,4 @@ returns-in_err-publish_names-clause-cause g c =
     let passed : c.is_pubnames_section.result ≡ true = grind arith in
     let p = err_from_is_err_and c.from_residual-in_err-publish_names.result c.from_residual-in_err-publish_names.ensures.1 in
     holds_of (IsNamesCause class c.args.object file) c.from_residual-in_err-publish_names.result c.in_err-publish_names.field-0.0 (p.1 ∙ ap (λ e. Err e) p.2)
-    (first_bad class c.args.object file c.args.units.units.now inv.0 s c.next.new.self (shown c.loop-index.names.entries) c.in_err-publish_names.field-0.0 whole (sym test ∙ passed) inv.2 (no_sets c.in_ok-bytes.bytes.now (sym c.in_ok-bytes.ensures.found) c.in_err-publish_names.field-0.0 c.in_err-publish_names.ensures.cause))
+    (first_bad class c.args.object file c.args.units.units.now inv.0 s c.next.new.self (all_marked c.loop-index.names.items) c.in_err-publish_names.field-0.0 whole (sym test ∙ passed) inv.2 (no_sets c.in_ok-bytes.bytes.now (sym c.in_ok-bytes.ensures.found) c.in_err-publish_names.field-0.0 c.in_err-publish_names.ensures.cause))

@@ -6,18 +6,14 @@ use Rattle.elf_format.specs.declared.index.SectionIndex.{SectionIndex}
 use Rattle.elf_format.specs.Section.{sections}
 use Rattle.gdb_index_format.specs.Objects.{first_compressed}
 use Rattle.dwarf_sections.specs.UnitSearch.{Ascend}
-use Rattle.gdb_scan.specs.declared.error.GdbError.TheVariants.{NoMemory}
-use Rattle.gdb_scan.specs.Cause.{IsScanCause, compressed, in_units, in_names, no_memory}
+use Rattle.gdb_scan.specs.Cause.{IsScanCause, compressed, in_units, in_names}
 use Rattle.gdb_scan.specs.steps.Gathered.{GathersNames}
-use Rattle.gdb_scan.specs.Buckets.{in_buckets}
-use Rattle.gdb_scan.specs.Groups.{shown}
-use Rattle.gdb_scan.specs.Marks.{groups_in}
+use Rattle.gdb_scan.specs.Marks.{all_marked}
 use Rattle.gdb_scan.specs.PlacedIn.{placed_in}
 use Rattle.gdb_index_format.specs.Placed.{is_counted}
-use Rattle.gdb_scan.specs.Scan.{IsSoundScan}
 use Rattle.gdb_scan.proofs.Causes.{holds_of, only_memory}
 use Rattle.gdb_scan.proofs.OneCause.{refused_by, one_scan_cause, told_object, no_scan_cause}
-use Rattle.gdb_scan.proofs.Sounding.{units_ascend, placed_few, sound_scan, scanned, scanned_none, fails_in_names}
+use Rattle.gdb_scan.proofs.Sounding.{units_ascend, placed_few, sound_scan, gathered_within, scanned, scanned_none, fails_in_names}
 use Rattle.gdb_scan.proofs.scan.scan_one_object.Goals as goal
 
 pub returns-in-Some-clause-cause : goal.returns-in-Some-clause-cause
@@ -86,19 +82,6 @@ returns-in_err-names-clause-exact g c =
 pub returns-in_err-names-clause-complete : goal.returns-in_err-names-clause-complete
 returns-in_err-names-clause-complete g c = λ o is none. only_memory g.C.ElfClass.class c.args.object c.args.file.now.bytes o c.from_residual-in_err-names.result is none (returns-in_err-names-clause-cause g c)
 
-pub returns-in_err-names-2-clause-cause : goal.returns-in_err-names-2-clause-cause
-returns-in_err-names-2-clause-cause g c =
-    let p = err_from_is_err_and c.from_residual-in_err-names-2.result c.from_residual-in_err-names-2.ensures.1 in
-    holds_of (IsScanCause g.C.ElfClass.class c.args.object c.args.file.now.bytes) c.from_residual-in_err-names-2.result NoMemory (p.1 ∙ ap (λ e. Err e) p.2) no_memory
-
-pub returns-in_err-names-2-clause-exact : goal.returns-in_err-names-2-clause-exact
-returns-in_err-names-2-clause-exact g c =
-    let class = g.C.ElfClass.class in
-    let object = c.args.object in
-    let file = c.args.file.now.bytes in
-    let p = err_from_is_err_and c.from_residual-in_err-names-2.result c.from_residual-in_err-names-2.ensures.1 in
-    λ e cause some. refused_by (IsScanCause class object file) c.from_residual-in_err-names-2.result NoMemory e (one_scan_cause class object file) (p.1 ∙ ap (λ x. Err x) p.2) (returns-in_err-names-2-clause-cause g c) cause some
-
 pub new-requires-clause-sound : goal.new-requires-clause-sound
 new-requires-clause-sound g c =
     let class = g.C.ElfClass.class in
@@ -107,11 +90,16 @@ new-requires-clause-sound g c =
     let us = c.in_ok-units.units.items in
     let units = c.in_ok-units.ensures.units in
     let some : 0 < length us = grind (arith, common_steps) in
-    let gathered : GathersNames class file us (shown c.in_ok-names.names.entries) = subst (λ xs. GathersNames class file xs (shown c.in_ok-names.names.entries)) (c.ascending.ensures ∙ c.deref.ensures.value) c.in_ok-names.ensures.names in
-    let named : groups_in c.in_ok-names-2.names.items ≡ in_buckets (shown c.in_ok-names.names.entries) = c.in_ok-names-2.ensures.listed in
+    let gathered : GathersNames class file us (all_marked c.in_ok-names.names.items) = subst (λ xs. GathersNames class file xs (all_marked c.in_ok-names.names.items)) (c.ascending.ensures ∙ c.deref.ensures.value) c.in_ok-names.ensures.names in
     let count : c.count_placed-placed.result ≡ placed_in class file object c.args.placements.now = c.count_placed-placed.ensures ∙ ap (λ l. length (filter (is_counted class file) l)) c.placements_of.ensures in
-    subst (λ gs. IsSoundScan (record { units = us; names = gs; placed = c.count_placed-placed.result })) (sym named)
-    (sound_scan class file us (shown c.in_ok-names.names.entries) c.count_placed-placed.result c.requires.small units some gathered c.in_ok-names.ensures.fit (subst (λ n. n ≤ length (sections class file)) (sym count) (placed_few class file object c.args.placements.now c.requires.placements c.requires.named)))
+    sound_scan class file us c.in_ok-names.names.items c.count_placed-placed.result c.requires.small units some gathered c.in_ok-names.ensures.fit (subst (λ n. n ≤ length (sections class file)) (sym count) (placed_few class file object c.args.placements.now c.requires.placements c.requires.named))
+
+pub new-requires-clause-within : goal.new-requires-clause-within
+new-requires-clause-within g c =
+    let class = g.C.ElfClass.class in
+    let file = c.args.file.now.bytes in
+    let us = c.in_ok-units.units.items in
+    gathered_within class file us c.in_ok-names.names.items (subst (λ xs. GathersNames class file xs (all_marked c.in_ok-names.names.items)) (c.ascending.ensures ∙ c.deref.ensures.value) c.in_ok-names.ensures.names)
 
 pub returns-clause-scan : goal.returns-clause-scan
 returns-clause-scan g c =
@@ -122,10 +110,9 @@ returns-clause-scan g c =
     let us = c.in_ok-units.units.items in
     let units = c.in_ok-units.ensures.units in
     let some : 0 < length us = grind (arith, common_steps) in
-    let gathered : GathersNames class file us (shown c.in_ok-names.names.entries) = subst (λ xs. GathersNames class file xs (shown c.in_ok-names.names.entries)) (c.ascending.ensures ∙ c.deref.ensures.value) c.in_ok-names.ensures.names in
-    let named : groups_in c.in_ok-names-2.names.items ≡ in_buckets (shown c.in_ok-names.names.entries) = c.in_ok-names-2.ensures.listed in
+    let gathered : GathersNames class file us (all_marked c.in_ok-names.names.items) = subst (λ xs. GathersNames class file xs (all_marked c.in_ok-names.names.items)) (c.ascending.ensures ∙ c.deref.ensures.value) c.in_ok-names.ensures.names in
     let count : c.count_placed-placed.result ≡ placed_in class file object c.args.placements.now = c.count_placed-placed.ensures ∙ ap (λ l. length (filter (is_counted class file) l)) c.placements_of.ensures in
-    scanned class file object c.args.placements.now us (shown c.in_ok-names.names.entries) c.count_placed-placed.result c.new.result (c.new.ensures ∙ ap (λ gs. record { units = us; names = gs; placed = c.count_placed-placed.result }) named) units some gathered plain count c.in_ok-names.ensures.fit
+    scanned class file object c.args.placements.now us c.in_ok-names.names.items c.count_placed-placed.result c.new.result c.new.ensures units some gathered plain count c.in_ok-names.ensures.fit
 
 pub returns-clause-exact : goal.returns-clause-exact
 returns-clause-exact g c = λ e cause some. some (no_scan_cause g.C.ElfClass.class c.args.object c.args.file.now.bytes c.args.placements.now (Some c.new.result) e (returns-clause-scan g c) cause)

@@ -18,7 +18,7 @@ new-requires c =
     let is : c.as_slice-all.result.now ≡ ss = c.as_slice-all.ensures.value in
     let few : unit_total ss ≤ 2 ^ 24 = omega (arith, c.count_units-count.ensures.total, ap unit_total is, c.if-count-gt-MAX_UNITS.false) in
     let ns = all_named c.in_ok-names.names.items in
-    let sorted : AreSorted (in_buckets (groups (words_from 0 ss))) ns = subst (λ (xs : List (Option ObjectScan)). AreSorted (in_buckets (groups (words_from 0 xs))) ns) is c.in_ok-names.ensures.sorted in
+    let sorted : AreSorted (in_buckets (groups (words_from 0 ss))) ns = c.in_ok-names.ensures.sorted in
     sound_merge ss c.in_ok-units.units.items ns c.count_placed-placed.result c.in_ok-counts.counts.items
     (c.in_ok-units.ensures ∙ ap (λ (xs : List (Option ObjectScan)). end_to_end 0 (units_in_scans xs)) is) (c.in_ok-counts.ensures ∙ ap unit_counts is) few (subst (AllByRecursion HasSoundNames) is c.count_units-count.ensures.sound) sorted c.in_ok-names.ensures.fit
 
@@ -28,7 +28,7 @@ returns-clause-merged c =
     let is : c.as_slice-all.result.now ≡ ss = c.as_slice-all.ensures.value in
     let few : unit_total ss ≤ 2 ^ 24 = omega (arith, c.count_units-count.ensures.total, ap unit_total is, c.if-count-gt-MAX_UNITS.false) in
     let ns = all_named c.in_ok-names.names.items in
-    let sorted : AreSorted (in_buckets (groups (words_from 0 ss))) ns = subst (λ (xs : List (Option ObjectScan)). AreSorted (in_buckets (groups (words_from 0 xs))) ns) is c.in_ok-names.ensures.sorted in
+    let sorted : AreSorted (in_buckets (groups (words_from 0 ss))) ns = c.in_ok-names.ensures.sorted in
     subst (IsMergeOf ss) (sym c.new.ensures) record {
       few = few;
       units = c.in_ok-units.ensures ∙ ap (λ (xs : List (Option ObjectScan)). end_to_end 0 (units_in_scans xs)) is;
@@ -42,5 +42,5 @@ returns-clause-objects c = λ os scans.
     let ss = c.args.scans.items in
     let is : c.as_slice-all.result.now ≡ ss = c.as_slice-all.ensures.value in
     let ns = all_named c.in_ok-names.names.items in
-    let sorted : AreSorted (in_buckets (groups (words_from 0 ss))) ns = subst (λ (xs : List (Option ObjectScan)). AreSorted (in_buckets (groups (words_from 0 xs))) ns) is c.in_ok-names.ensures.sorted in
+    let sorted : AreSorted (in_buckets (groups (words_from 0 ss))) ns = c.in_ok-names.ensures.sorted in
     subst (ListsPublished (published os)) (sym (ap (λ (m : Scan). m.names) c.new.ensures)) (lists_of_objects os ss ns scans sorted)

@@ -1,26 +1,43 @@
-use Rattle.std.proofs.Common.{◌≡◌, ◌+◌, ◌++◌, ap, sym, subst, ◌∙◌, arith, ◌<◌, ◌^◌}
-use Rattle.std.specs.List.{All, flat_map, range_with_len}
-use Rattle.std.proofs.lemmas.List.{map-append}
-use Rattle.std.proofs.lemmas.List.Elements.{All-append}
-use Rattle.std.proofs.lemmas.Grind.{common_steps}
-use Rattle.gdb_index_format.specs.Named.{Named, all_named, named as named_of}
-use Rattle.gdb_scan.specs.Buckets.{of_bucket}
-use Rattle.gdb_scan.specs.Groups.{shown, groups}
+use Rattle.std.proofs.Common.{◌≡◌, ◌++◌, ◌∷◌, [], List, ℕ, ◌∙◌, sym, subst, ap, append_assoc, arith}
+use Rattle.std.specs.List.{flat_map}
+use Rattle.std.specs.Vec.Iter.{into_iter_items}
+use Rattle.std.proofs.lemmas.Grind.{common_steps, flat_map-append}
+use Rattle.std.proofs.lemmas.List.{append-nil, map_push}
+use Rattle.gdb_index_format.specs.Named.{all_named}
 use Rattle.gdb_index.specs.Scan.{HaveSmallWords}
+use Rattle.gdb_scan.specs.Groups.{groups}
 use Rattle.gdb_tables.specs.Merged.{AreSorted}
-use Rattle.gdb_tables.specs.Scans.{words_from}
-use Rattle.gdb_tables.proofs.Merging.{bucket_more}
+use Rattle.gdb_tables.specs.steps.Distributed.{elements_shown, lists_shown}
+use Rattle.gdb_tables.specs.steps.Vectors.{AddsSorted}
+use Rattle.gdb_tables.proofs.Distributing.{groups_of_lists}
+use Rattle.gdb_tables.proofs.Vectoring.{adds_more}
 use Rattle.gdb_tables.proofs.merge.pool_names.Goals as goal
 
-pub loop-bucket-preserved : goal.loop-bucket-preserved
-loop-bucket-preserved c =
-    let ps = words_from 0 c.args.scans.now in
-    let before = all_named c.loop-bucket.list.items in
-    let here = all_named c.in_ok-names.names.items in
-    let items : c.append.new.self.items ≡ c.loop-bucket.list.items ++ c.in_ok-names.names.items = grind (arith, common_steps) in
-    let seen : before ++ here ≡ all_named c.append.new.self.items = sym (map-append named_of c.loop-bucket.list.items c.in_ok-names.names.items) ∙ ap all_named (sym items) in
+pub loop-elements-preserved : goal.loop-elements-preserved
+loop-elements-preserved c =
+    let e = c.in-Some.elements in
+    let done = c.loop-elements.yielded in
+    let inv = c.loop-elements.invariant in
+    let old = all_named c.loop-elements.list.items in
+    let new = all_named c.add_bucket.new.list.items in
+    let own = groups (elements_shown e.items) in
+    let before = flat_map (λ (ps : List (List ℕ × ℕ)). groups ps) (lists_shown done) in
+    let taken : into_iter_items c.loop-elements.elements-iterator ≡ e ∷ into_iter_items c.next.new.self = c.in-Some.ensures.steps.0 in
+    let joined : flat_map (λ (ps : List (List ℕ × ℕ)). groups ps) (lists_shown (done ++ e ∷ [])) ≡ before ++ own =
+    ap (flat_map (λ (ps : List (List ℕ × ℕ)). groups ps)) (map_push (λ l. elements_shown l.items) done e)
+    ∙ flat_map-append (λ (ps : List (List ℕ × ℕ)). groups ps) (lists_shown done) (elements_shown e.items ∷ [])
+    ∙ ap (λ l. before ++ l) (append-nil own) in
+    let adds : AddsSorted own old new = subst (λ es. AddsSorted (groups (elements_shown es)) old new) c.deref.ensures.value c.in_ok-add_bucket.ensures in
+    let more : AreSorted (before ++ own) new × HaveSmallWords new = adds_more before own old new inv.sorted inv.fit adds in
     record {
-      sorted = subst (AreSorted (flat_map (λ b. of_bucket b (groups ps)) (range_with_len 0 (c.loop-bucket.bucket + 1)))) seen
-          (bucket_more ps c.loop-bucket.bucket before here (shown c.in_ok-words.words.entries) c.loop-bucket.invariant.sorted c.in_ok-words.ensures c.in_ok-names.ensures.sorted);
-      fit = subst HaveSmallWords seen (All-append (λ (n : Named). All (λ w. w < 2 ^ 32) n.words) before here c.loop-bucket.invariant.fit c.in_ok-names.ensures.fit);
+      taken = inv.taken ∙ ap (λ l. done ++ l) taken ∙ sym (append_assoc done (e ∷ []) (into_iter_items c.next.new.self));
+      sorted = subst (λ gs. AreSorted gs new) (sym joined) more.0;
+      fit = more.1;
     }
+
+pub returns-clause-sorted : goal.returns-clause-sorted
+returns-clause-sorted c =
+    let all : c.loop-elements.yielded ≡ c.in_ok-elements-items.elements-items.items = grind (arith, common_steps) in
+    subst (λ gs. AreSorted gs (all_named c.loop-elements.list.items))
+    (ap (λ ls. flat_map (λ (ps : List (List ℕ × ℕ)). groups ps) (lists_shown ls)) all ∙ groups_of_lists c.args.scans.items (lists_shown c.in_ok-elements-items.elements-items.items) c.in_ok-elements-items.ensures)
+    c.loop-elements.invariant.sorted
