@@ -23,3 +23,4 @@ pub mod LawLemmas
 pub mod PoolOrders
 pub mod PartsIndexed
 pub mod PartsPublished
+pub mod NamePrefixes
