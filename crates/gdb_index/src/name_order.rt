@@ -94,9 +94,9 @@ impl<'a, T> ByName<'a, T> {
 }
 
 /// Sorts names in ascending byte order.
-pub fn sort_by_name<T>(names: &mut [ByName<'_, T>])
-    ensures sorted { IsSortedByKey (λ n. n.name.now) (slice_cmp nat_cmp) names.new }
-    ensures same { IsPermutation names.old names.new }
+pub fn sort_by_name<T>(names: &mut Vec<ByName<'_, T>>)
+    ensures sorted { IsSortedByKey (λ n. n.name.now) (slice_cmp nat_cmp) names.new.items }
+    ensures same { IsPermutation names.old.items names.new.items }
 {
     names.sort_unstable_by(|one, other| one.order(other));
 }

@@ -20,3 +20,4 @@ pub mod OneIndex
 pub mod ListedUnits
 pub mod Tallying
 pub mod NamedUnits
+pub mod Keyed
