@@ -24,3 +24,4 @@ pub mod PoolOrders
 pub mod PartsIndexed
 pub mod PartsPublished
 pub mod NamePrefixes
+pub mod NameLists

@@ -20,4 +20,3 @@ pub mod OneIndex
 pub mod ListedUnits
 pub mod Tallying
 pub mod NamedUnits
-pub mod Keyed

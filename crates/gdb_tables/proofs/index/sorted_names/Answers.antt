@@ -2,7 +2,7 @@ use Rattle.std.proofs.Common.{List, sym, subst, IsPermutation}
 use Rattle.std.proofs.lemmas.List.Sorted.{IsPermutation-map}
 use Rattle.gdb_index_format.specs.Named.{Named, named, all_named}
 use Rattle.gdb_tables.specs.steps.Keyed.{keyed_named, all_keyed}
-use Rattle.gdb_tables.proofs.Keyed.{sorted_as}
+use Rattle.gdb_index.proofs.NameLists.{sorted_as}
 use Rattle.gdb_tables.proofs.index.sorted_names.Goals as goal
 
 pub returns-clause-sorted : goal.returns-clause-sorted
