@@ -1,0 +1,61 @@
+//! The text of a symbol's name with its version.
+
+ghost use Rattle.std.specs.Prelude.{◌≡◌};
+ghost use Rattle.elf_format.specs.SymbolName.{part_text};
+
+use crate::name::RawSymbolName;
+use std::fmt;
+
+/// A part of a name as text: where it is no UTF-8, `?` stands for each byte beyond ASCII.
+#[derive(Clone, Copy)]
+struct PartText<'a>(&'a [u8]);
+
+/// The bytes that are no UTF-8 as text: `?` for each beyond ASCII.
+#[derive(Clone, Copy)]
+struct AsciiText<'a>(&'a [u8]);
+
+impl fmt::Display for AsciiText<'_> {
+    ghost use Rattle.std.specs.Prelude.{Some, map, nat_lt, if◌then◌else◌};
+
+    ghost output = { λ shown. Some (map (λ b. if nat_lt b 128 then b else 0x3f) shown.0.now) };
+
+    fn fmt<W: fmt::Write>(&self, f: &mut fmt::Formatter<W>) -> fmt::Result {
+        for byte in self.0 {
+            let shown = if *byte < 128 { char::from(*byte) } else { '?' };
+            f.write_char(shown)?;
+        }
+        Ok(())
+    }
+}
+
+impl fmt::Display for PartText<'_> {
+    ghost use Rattle.std.specs.Prelude.{Some};
+    ghost use Rattle.elf_format.specs.SymbolName.{part_text};
+
+    ghost output = { λ shown. Some (part_text shown.0.now) };
+
+    fn fmt<W: fmt::Write>(&self, f: &mut fmt::Formatter<W>) -> fmt::Result {
+        match str::from_utf8(self.0) {
+            Ok(text) => f.write_str(text),
+            Err(_) => write!(f, "{}", AsciiText(self.0)),
+        }
+    }
+}
+
+impl fmt::Display for RawSymbolName<'_> {
+    ghost use Rattle.std.specs.Prelude.{Some};
+    ghost use Rattle.elf_format.specs.SymbolName.{name_text};
+
+    ghost output = { λ shown. Some (name_text shown) };
+
+    fn fmt<W: fmt::Write>(&self, f: &mut fmt::Formatter<W>) -> fmt::Result {
+        let name = PartText(self.name);
+        match self.version_name {
+            None => write!(f, "{name}"),
+            Some(version) => {
+                let mark = if self.is_default { "@@" } else { "@" };
+                write!(f, "{name}{mark}{}", PartText(version))
+            }
+        }
+    }
+}
