@@ -98,7 +98,7 @@ impl<'a, R: ChainRecord> Chain<'a, R> {
         Chain {
             bytes,
             position: Position {
-                at: offset_after(at, distance),
+                at: offset_after(bytes, at, distance),
                 count,
             },
             record: PhantomData,

@@ -1,7 +1,7 @@
 //! The names of the version definitions by their indexes (GNU symbol versioning, Version Definitions). A name is that
 //! of the first record (Verdaux) of a definition; the last definition of an index counts.
 
-ghost use Rattle.std.specs.Prelude.{◌≡◌, ◌+◌, ℕ, length, slice_get, option_copied, Ok, MatchResult};
+ghost use Rattle.std.specs.Prelude.{◌≡◌, ◌<◌, length, slice_get, option_copied, Ok, IfOk, MatchResult};
 ghost use Rattle.std.specs.Option.{option_flatten};
 ghost use Rattle.std.specs.Result.{result_err};
 ghost use Rattle.elf_format.specs.Chain.{on_ok};
@@ -86,11 +86,11 @@ fn defined_version<'a>(
     strings: &'a [u8],
     definition: Result<(Verdef, VerdauxIter<'a>), ElfError>,
 ) -> Result<IndexedName<'a>, VersionError>
-    ensures { MatchResult result (λ named. version.defined_version last strings.now (on_ok (λ item. headed item.0.bytes item.1) definition.entry) ≡ Ok (named.index, named.name.now)) (IsVersionFault (result_err (version.defined_version last strings.now (on_ok (λ item. headed item.0.bytes item.1) definition.entry)))) }
+    ensures bound { IfOk result (λ named. named.index < version_index_count last) }
+    ensures value { MatchResult result (λ named. version.defined_version last strings.now (on_ok (λ item. headed item.0.bytes item.1) definition.entry) ≡ Ok (named.index, named.name.now)) (IsVersionFault (result_err (version.defined_version last strings.now (on_ok (λ item. headed item.0.bytes item.1) definition.entry)))) }
 {
-    let (definition, names) = match definition {
-        Ok(definition) => definition,
-        Err(error) => return Err(VersionError::Elf(error)),
+    let Ok((definition, names)) = definition else {
+        return Err(VersionError::Elf(ElfError::VersionTable));
     };
     let Some(name) = first_name(strings, names) else {
         return Err(VersionError::Elf(ElfError::VersionTable));

@@ -1,6 +1,6 @@
 //! Names by version index. Contracts see the table as the list of its entries.
 
-ghost use Rattle.std.specs.Prelude.{◌≡◌, ◌<◌, ℕ, List, replicate, length, slice_get, option_copied, None, IfOk};
+ghost use Rattle.std.specs.Prelude.{◌≡◌, ◌-◌, ◌≤◌, ◌++◌, replicate, length, slice_get, vec_len, option_copied, None, IfOk};
 ghost use Rattle.std.specs.Option.{option_flatten};
 ghost use Rattle.elf_versions.specs.steps.Names.{put_name};
 
@@ -23,6 +23,7 @@ impl<'a> Model for NameTable<'a> {
 
 impl<'a> NameTable<'a> {
     /// Returns the table of `count` entries without a name.
+    #[tactic(auto, using(crate::proofs::NameLemmas::none_are_shown))]
     pub fn new(alloc: Global, count: usize) -> Result<Self, AllocError>
         ensures { IfOk result (λ table. table ≡ replicate count None) }
     {
@@ -45,16 +46,27 @@ impl<'a> NameTable<'a> {
     }
 
     /// Enters a name at an index, in place of one that is there. The table grows as needed.
+    #[tactic(auto, using(crate::proofs::NameLemmas::put_shown))]
     pub fn put(&mut self, index: u16, name: &'a [u8]) -> Result<(), AllocError>
         ensures { IfOk result (λ _. self.new ≡ put_name self.old index name.now) }
     {
         let index = index as usize;
-        if index >= self.names.len() {
-            self.names.resize(index + 1, None)?;
-        }
+        grow(&mut self.names, index + 1)?;
         self.names[index] = Some(name);
         Ok(())
     }
+}
+
+/// Adds entries without a name until there are at least `count`.
+fn grow<'a>(names: &mut Vec<Option<&'a [u8]>>, count: usize) -> Result<(), AllocError>
+    ensures items { IfOk result (λ _. names.new.items ≡ names.old.items ++ replicate (count - vec_len names.old) None) }
+    ensures len { IfOk result (λ _. count ≤ vec_len names.new) }
+{
+    if count <= names.len() {
+        return Ok(());
+    }
+    names.resize(count, None)?;
+    Ok(())
 }
 
 /// A version index and a name.

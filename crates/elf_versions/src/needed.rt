@@ -1,12 +1,12 @@
 //! The names of the versions that symbols need (GNU symbol versioning, Version Requirements), found by their version
 //! records (Versym). The last record (Vernaux) of an index counts.
 
-ghost use Rattle.std.specs.Prelude.{◌≡◌, ◌+◌, ℕ, length, slice_get, option_copied, Ok, MatchResult};
+ghost use Rattle.std.specs.Prelude.{◌≡◌, slice_get, option_copied, Ok, MatchResult};
 ghost use Rattle.std.specs.Option.{option_flatten};
 ghost use Rattle.std.specs.Result.{result_err};
-ghost use Rattle.elf_format.specs.Chain.{on_ok, each_ok, ◌>>=◌};
+ghost use Rattle.elf_format.specs.Chain.{on_ok, each_ok};
 ghost use Rattle.elf_format.specs.VersionName.{needed_names};
-ghost use Rattle.elf_format.specs.VersionName as versions;
+ghost use Rattle.elf_format.specs.VersionName as named;
 ghost use Rattle.elf_versions.specs.Cause.{IsVersionFault};
 ghost use Rattle.elf_versions.specs.Shown.{headed};
 ghost use Rattle.elf_versions.specs.steps.Names.{put_names};
@@ -74,11 +74,10 @@ fn put_needed<'a>(
     strings: &'a [u8],
     need: Result<(Verneed, VernauxIter<'a>), ElfError>,
 ) -> Result<(), VersionError>
-    ensures { MatchResult result (λ _. (versions.needed_from strings.now (on_ok (λ item. headed item.0.bytes item.1) need.entry) >>= (λ pairs. Ok (put_names names.old pairs))) ≡ Ok names.new) (IsVersionFault (result_err (versions.needed_from strings.now (on_ok (λ item. headed item.0.bytes item.1) need.entry)))) }
+    ensures { MatchResult result (λ _. on_ok (put_names names.old) (named.needed_from strings.now (on_ok (λ item. headed item.0.bytes item.1) need.entry)) ≡ Ok names.new) (IsVersionFault (result_err (named.needed_from strings.now (on_ok (λ item. headed item.0.bytes item.1) need.entry)))) }
 {
-    let (_, versions) = match need {
-        Ok(need) => need,
-        Err(error) => return Err(VersionError::Elf(error)),
+    let Ok((_, versions)) = need else {
+        return Err(VersionError::Elf(ElfError::VersionTable));
     };
     put_versions(names, strings, versions)
 }
@@ -89,7 +88,7 @@ fn put_versions<'a>(
     strings: &'a [u8],
     versions: VernauxIter<'a>,
 ) -> Result<(), VersionError>
-    ensures { MatchResult result (λ _. (each_ok (versions.needed_version strings.now) versions.entry >>= (λ pairs. Ok (put_names names.old pairs))) ≡ Ok names.new) (IsVersionFault (result_err (each_ok (versions.needed_version strings.now) versions.entry))) }
+    ensures { MatchResult result (λ _. on_ok (put_names names.old) (each_ok (named.needed_version strings.now) versions.entry) ≡ Ok names.new) (IsVersionFault (result_err (each_ok (named.needed_version strings.now) versions.entry))) }
 {
     for version in versions {
         let named = needed_version(strings, version)?;
@@ -103,11 +102,10 @@ fn needed_version<'a>(
     strings: &'a [u8],
     version: Result<Vernaux, ElfError>,
 ) -> Result<IndexedName<'a>, VersionError>
-    ensures { MatchResult result (λ named. versions.needed_version strings.now (on_ok (λ item. item.bytes) version) ≡ Ok (named.index, named.name.now)) (IsVersionFault (result_err (versions.needed_version strings.now (on_ok (λ item. item.bytes) version)))) }
+    ensures { MatchResult result (λ found. named.needed_version strings.now (on_ok (λ item. item.bytes) version) ≡ Ok (found.index, found.name.now)) (IsVersionFault (result_err (named.needed_version strings.now (on_ok (λ item. item.bytes) version)))) }
 {
-    let version = match version {
-        Ok(version) => version,
-        Err(error) => return Err(VersionError::Elf(error)),
+    let Ok(version) = version else {
+        return Err(VersionError::Elf(ElfError::VersionTable));
     };
     let Some(name) = string_at(strings, version.vna_name() as usize) else {
         return Err(VersionError::Elf(ElfError::VersionTable));

@@ -1,10 +1,10 @@
 //! A step along a chain of records.
 
-ghost use Rattle.std.specs.Prelude.{◌≡◌, ◌+◌, ◌<◌, ◌≤◌, ◌∷◌, length, MatchOption};
+ghost use Rattle.std.specs.Prelude.{◌≡◌, ◌+◌, ◌-◌, ◌<◌, ◌≤◌, ◌==◌, ◌∷◌, [], ℕ, length, MatchOption, if◌then◌else◌};
 ghost use Rattle.elf_format.specs.Bytes.{bytes_at};
 ghost use Rattle.elf_format.specs.Chain.{on_ok};
 ghost use Rattle.elf_format.specs.VersionChain as chain;
-ghost use Rattle.elf_format.specs.VersionChain.{offsets_from, records_from};
+ghost use Rattle.elf_format.specs.VersionChain.{ChainForm, offsets_from};
 
 use crate::chain::ChainRecord;
 use elf_format::ElfError;
@@ -24,14 +24,37 @@ fn record_at<R: Record>(bytes: &[u8], at: usize) -> Option<R>
     R::read(bytes.get(at..)?)
 }
 
-/// Returns the offset at a distance from another. One that does not fit is past all bytes, as the greatest is.
-pub(crate) fn offset_after(at: usize, distance: u32) -> usize
+/// Returns the offset at a distance from another. One that does not fit is past all bytes.
+#[tactic(auto, using(crate::proofs::ChainLemmas::offsets_past))]
+pub(crate) fn offset_after(bytes: &[u8], at: usize, distance: u32) -> usize
+    ensures { (form : ChainForm) (count : ℕ) → 0 < form.size → offsets_from form bytes.now count result ≡ offsets_from form bytes.now count (at + distance) }
 {
-    at.saturating_add(distance as usize)
+    match at.checked_add(distance as usize) {
+        Some(offset) => offset,
+        None => bytes.len(),
+    }
+}
+
+/// Returns the position after a record, by the distance to the next record.
+fn position_after<R: ChainRecord>(bytes: &[u8], position: Position, distance: u32) -> Position
+    requires { 0 < position.count }
+    ensures { offsets_from R.form bytes.now result.count result.at ≡ (if distance == 0 then [] else offsets_from R.form bytes.now (position.count - 1) (position.at + distance)) }
+{
+    if distance == 0 {
+        return Position {
+            at: position.at,
+            count: 0,
+        };
+    }
+    Position {
+        at: offset_after(bytes, position.at, distance),
+        count: position.count - 1,
+    }
 }
 
 /// Reads the record at a position, and returns the position of the next. `VersionTable` where the bytes end inside
 /// the record; no record follows then. Requires that the chain goes on.
+#[tactic(auto, using(crate::proofs::ChainLemmas::offsets_error, crate::proofs::ChainLemmas::offsets_more))]
 pub(crate) fn read_step<R: ChainRecord>(
     bytes: &[u8],
     position: Position,
@@ -41,13 +64,12 @@ pub(crate) fn read_step<R: ChainRecord>(
     ensures item { on_ok R.contents result.0 ≡ on_ok (λ _. chain.record_at R.form bytes.now position.at) result.0 }
 {
     let Some(record) = record_at::<R>(bytes, position.at) else {
-        return (Err(ElfError::VersionTable), Position { at: position.at, count: 0 });
+        let end = Position {
+            at: position.at,
+            count: 0,
+        };
+        return (Err(ElfError::VersionTable), end);
     };
-    let distance = record.next_distance();
-    let next = if distance == 0 {
-        Position { at: position.at, count: 0 }
-    } else {
-        Position { at: offset_after(position.at, distance), count: position.count - 1 }
-    };
+    let next = position_after::<R>(bytes, position, record.next_distance());
     (Ok(record), next)
 }

@@ -1,7 +1,6 @@
 //! The text of a symbol's name with its version.
 
-ghost use Rattle.std.specs.Prelude.{◌≡◌};
-ghost use Rattle.elf_format.specs.SymbolName.{part_text};
+ghost use Rattle.std.specs.Prelude.{◌≡◌, codes, if◌then◌else◌};
 
 use crate::name::RawSymbolName;
 use std::fmt;
@@ -34,6 +33,7 @@ impl fmt::Display for PartText<'_> {
 
     ghost output = { λ shown. Some (part_text shown.0.now) };
 
+    #[tactic(auto, unfolding(elf_format::specs::SymbolName::part_text))]
     fn fmt<W: fmt::Write>(&self, f: &mut fmt::Formatter<W>) -> fmt::Result {
         match str::from_utf8(self.0) {
             Ok(text) => f.write_str(text),
@@ -42,20 +42,28 @@ impl fmt::Display for PartText<'_> {
     }
 }
 
+/// Returns the text before a version.
+fn version_mark(is_default: bool) -> &'static str
+    ensures { result.now ≡ (if is_default then codes "@@" else codes "@") }
+{
+    if is_default { "@@" } else { "@" }
+}
+
 impl fmt::Display for RawSymbolName<'_> {
     ghost use Rattle.std.specs.Prelude.{Some};
     ghost use Rattle.elf_format.specs.SymbolName.{name_text};
 
     ghost output = { λ shown. Some (name_text shown) };
 
+    /// Shows `name`, `name@version`, or `name@@version` for the default version.
+    #[tactic(auto, unfolding(elf_format::specs::SymbolName::name_text))]
     fn fmt<W: fmt::Write>(&self, f: &mut fmt::Formatter<W>) -> fmt::Result {
         let name = PartText(self.name);
-        match self.version_name {
-            None => write!(f, "{name}"),
-            Some(version) => {
-                let mark = if self.is_default { "@@" } else { "@" };
-                write!(f, "{name}{mark}{}", PartText(version))
-            }
-        }
+        let Some(version) = self.version_name else {
+            return write!(f, "{name}");
+        };
+        let mark = version_mark(self.is_default);
+        let version = PartText(version);
+        write!(f, "{name}{mark}{version}")
     }
 }
