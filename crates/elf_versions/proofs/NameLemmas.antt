@@ -1,6 +1,7 @@
 -- Names by index, as they are put into a list one by one.
 use Rattle.std.proofs.Common.{◌≡◌, ℕ, zero, suc, ◌+◌, ◌-◌, ◌<◌, ◌≤◌, Bool, true, false, ◌==◌, if◌then◌else◌, List, [], ◌∷◌, ◌++◌, length, replicate, map, set, Option, Some, None, option_copied, option_map, Result, Ok, Err, refl, ap, sym, ◌∙◌, arith, inl, inr}
 use Rattle.std.proofs.lemmas.Bool.Decides.{eqb_tells}
+use Rattle.std.proofs.lemmas.Grind.{common_steps}
 use Rattle.std.proofs.lemmas.List.{map-append, map-set, length-map, length-set, length-append, length-replicate}
 use Rattle.std.specs.Prelude.{slice_get}
 use Rattle.std.specs.List.{range_with_len}
@@ -116,26 +117,23 @@ all_from front (x ∷ xs) at e =
 pub after_all : (names : List (Option (List ℕ))) (count : ℕ) → length names ≡ count → names_after (λ i. i) (range_with_len 0 count) names [] ≡ names
 after_all names count e = rw (sym e) (all_from [] names 0 refl)
 
--- what contracts see of a list that grows
-pub put_shown : {B : Type 0} (see : B → List ℕ) (names : List (Option B)) (i : ℕ) (name : B)
-    → map (option_map see) (set (names ++ replicate (suc i - length names) None) i (Some name)) ≡ put_name (map (option_map see) names) i (see name)
-put_shown see names i name =
-    map-set (option_map see) (names ++ replicate (suc i - length names) None) i (Some name)
-    ∙ ap (λ (l : List (Option (List ℕ))). set l i (Some (see name))) (map-append (option_map see) names (replicate (suc i - length names) None)
-    ∙ ap (λ (l : List (Option (List ℕ))). map (option_map see) names ++ l) (none_shown see (suc i - length names)
-    ∙ ap (λ n. replicate (suc i - n) None) (sym (length-map names (option_map see))))) where
-      none_shown : {B : Type 0} (see : B → List ℕ) (n : ℕ) → map (option_map see) (replicate n None) ≡ replicate n None
-      none_shown see zero = refl
-      none_shown see (suc n) = ap (λ l. None ∷ l) (none_shown see n)
-
 pub none_are_shown : {B : Type 0} (see : B → List ℕ) (n : ℕ) → map (option_map see) (replicate n None) ≡ replicate n None
 none_are_shown see zero = refl
 none_are_shown see (suc n) = ap (λ l. None ∷ l) (none_are_shown see n)
 
+-- what contracts see of a list that grows
+pub put_shown : {B : Type 0} (see : B → List ℕ) (names : List (Option B)) (i count len : ℕ) (name : B) → count ≡ suc i → len ≡ length names
+    → map (option_map see) (set (names ++ replicate (count - len) None) i (Some name)) ≡ put_name (map (option_map see) names) i (see name)
+put_shown see names i count len name p q =
+    rw (p, q) (map-set (option_map see) (names ++ replicate (suc i - length names) None) i (Some name)
+    ∙ ap (λ (l : List (Option (List ℕ))). set l i (Some (see name))) (map-append (option_map see) names (replicate (suc i - length names) None)
+    ∙ ap (λ (l : List (Option (List ℕ))). map (option_map see) names ++ l) (none_are_shown see (suc i - length names)
+    ∙ ap (λ n. replicate (suc i - n) None) (sym (length-map names (option_map see))))))
+
 -- one more item of a list of which each gives a value or a refusal
 pub each_step : {X Y E Z : Type 0} (f : X → Result Y E) (x : X) (y : Y) (xs : List X) (g h : List Y → Z)
     → f x ≡ Ok y → ((ys : List Y) → h ys ≡ g (y ∷ ys)) → on_ok h (each_ok f xs) ≡ on_ok g (each_ok f (x ∷ xs))
-each_step f x y xs g h e same = rw e (step (each_ok f xs)) where
+each_step {Y = Y} {E = E} f x y xs g h e same = rw e (step (each_ok f xs)) where
   step : (r : Result (List Y) E) → on_ok h r ≡ on_ok g (Ok y >>= (λ z. r >>= (λ ys. Ok (z ∷ ys))))
   step (Ok ys) = ap (λ z. Ok z) (same ys)
   step (Err err) = refl

@@ -27,7 +27,7 @@ impl<'a> NameTable<'a> {
     pub fn new(alloc: Global, count: usize) -> Result<Self, AllocError>
         ensures { IfOk result (λ table. table ≡ replicate count None) }
     {
-        let names = vec![in alloc; None; count]?;
+        let names = no_names(alloc, count)?;
         Ok(NameTable { names })
     }
 
@@ -55,6 +55,14 @@ impl<'a> NameTable<'a> {
         self.names[index] = Some(name);
         Ok(())
     }
+}
+
+/// Makes `count` entries without a name.
+fn no_names<'a>(alloc: Global, count: usize) -> Result<Vec<Option<&'a [u8]>>, AllocError>
+    ensures { IfOk result (λ names. names.items ≡ replicate count None) }
+{
+    let names = vec![in alloc; None; count]?;
+    Ok(names)
 }
 
 /// Adds entries without a name until there are at least `count`.

@@ -1,6 +1,7 @@
 //! The text of a symbol's name with its version.
 
-ghost use Rattle.std.specs.Prelude.{◌≡◌, codes, if◌then◌else◌};
+ghost use Rattle.std.specs.Prelude.{◌≡◌, ◌<◌, codes, if◌then◌else◌};
+ghost use Rattle.elf_versions.specs.steps.Texts.{shown_byte};
 
 use crate::name::RawSymbolName;
 use std::fmt;
@@ -13,10 +14,19 @@ struct PartText<'a>(&'a [u8]);
 #[derive(Clone, Copy)]
 struct AsciiText<'a>(&'a [u8]);
 
-impl fmt::Display for AsciiText<'_> {
-    ghost use Rattle.std.specs.Prelude.{Some, map, nat_lt, if◌then◌else◌};
+/// Returns the character that stands for a byte of a part that is no UTF-8.
+fn shown_char(byte: u8) -> char
+    ensures value { result ≡ shown_byte byte }
+    ensures ascii { result < 128 }
+{
+    if byte < 128 { char::from(byte) } else { '?' }
+}
 
-    ghost output = { λ shown. Some (map (λ b. if nat_lt b 128 then b else 0x3f) shown.0.now) };
+impl fmt::Display for AsciiText<'_> {
+    ghost use Rattle.std.specs.Prelude.{Some, map};
+    ghost use Rattle.elf_versions.specs.steps.Texts.{shown_byte};
+
+    ghost output = { λ shown. Some (map shown_byte shown.0.now) };
 
     fn fmt<W: fmt::Write>(&self, f: &mut fmt::Formatter<W>) -> fmt::Result {
         for byte in self.0 {
@@ -33,7 +43,7 @@ impl fmt::Display for PartText<'_> {
 
     ghost output = { λ shown. Some (part_text shown.0.now) };
 
-    #[tactic(auto, unfolding(elf_format::specs::SymbolName::part_text))]
+    #[tactic(auto, using(crate::proofs::TextLemmas::part_whole, crate::proofs::TextLemmas::part_ascii))]
     fn fmt<W: fmt::Write>(&self, f: &mut fmt::Formatter<W>) -> fmt::Result {
         match str::from_utf8(self.0) {
             Ok(text) => f.write_str(text),

@@ -12,7 +12,7 @@ use crate::chain::{VerdauxIter, VernauxIter};
 use crate::heads::{VerdefIter, VerneedIter};
 use crate::strings::string_at;
 use elf_format::ElfError;
-use elf_tables::{Verdef, Vernaux, Verneed, Versym};
+use elf_tables::{Verdef, Verneed, Versym};
 use std::alloc::{AllocError, Global};
 
 /// Returns the text of a symbol's version by its version record (Versym). None where the symbol has none, where neither
@@ -70,6 +70,7 @@ fn find_name<'a>(
 }
 
 /// Returns the name of the first definition of an index that has one.
+#[tactic(auto, using(crate::proofs::TextLemmas::definition_step))]
 fn find_definition<'a>(
     strings: &'a [u8],
     index: u16,
@@ -78,8 +79,10 @@ fn find_definition<'a>(
     ensures { on_ok option_copied result ≡ definition_name strings.now index definitions.entry }
 {
     for definition in definitions {
-        if let Some(name) = name_of_definition(strings, index, definition)? {
-            return Ok(Some(name));
+        match name_of_definition(strings, index, definition) {
+            Ok(None) => {}
+            Ok(Some(name)) => return Ok(Some(name)),
+            Err(error) => return Err(error),
         }
     }
     Ok(None)
@@ -118,6 +121,7 @@ fn readable<'a>(strings: &'a [u8], offset: u32) -> Result<Option<&'a [u8]>, ElfE
 }
 
 /// Returns the name of the first needed version of an index.
+#[tactic(auto, using(crate::proofs::TextLemmas::needed_step))]
 fn find_needed<'a>(
     strings: &'a [u8],
     index: u16,
@@ -126,8 +130,10 @@ fn find_needed<'a>(
     ensures { on_ok option_copied result ≡ needed_name strings.now index needs.entry }
 {
     for need in needs {
-        if let Some(name) = name_from(strings, index, need)? {
-            return Ok(Some(name));
+        match name_from(strings, index, need) {
+            Ok(None) => {}
+            Ok(Some(name)) => return Ok(Some(name)),
+            Err(error) => return Err(error),
         }
     }
     Ok(None)
@@ -156,9 +162,13 @@ fn name_in_chain<'a>(
     ensures { on_ok option_copied result ≡ needed_name_or strings.now index versions.entry (Ok None) }
 {
     for version in versions {
-        let version: Vernaux = version?;
-        if version.vna_other() == index {
-            return readable(strings, version.vna_name());
+        match version {
+            Ok(version) => {
+                if version.vna_other() == index {
+                    return readable(strings, version.vna_name());
+                }
+            }
+            Err(error) => return Err(error),
         }
     }
     Ok(None)
