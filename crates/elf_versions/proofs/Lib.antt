@@ -1,3 +1,4 @@
 pub mod ChainLemmas
 pub mod NameLemmas
 pub mod TextLemmas
+pub mod DefinedLemmas

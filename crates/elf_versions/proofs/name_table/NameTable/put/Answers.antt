@@ -1,4 +1,4 @@
-use Rattle.std.proofs.Common.{arith}
+use Rattle.std.proofs.Common.{◌+◌, arith}
 use Rattle.elf_versions.proofs.NameLemmas.{put_shown}
 use Rattle.elf_versions.proofs.name_table.NameTable.put.Goals as goal
 
