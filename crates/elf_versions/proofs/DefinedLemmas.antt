@@ -1,14 +1,16 @@
 -- The names of the version definitions and of the needed versions, as they are entered one by one.
-use Rattle.std.proofs.Common.{◌≡◌, ℕ, List, [], ◌∷◌, ◌++◌, length, replicate, map, Option, None, Result, Ok, Err, refl, ap, sym, ◌∙◌, arith}
-use Rattle.std.proofs.lemmas.List.{append-nil, length-replicate}
+use Rattle.std.proofs.Common.{◌≡◌, ℕ, List, [], ◌∷◌, length, replicate, map, Option, None, Result, Ok, Err, refl, ap, sym, ◌∙◌}
 use Rattle.std.specs.List.{range_with_len, flat_map}
+use Rattle.std.specs.Result.{result_err}
 use Rattle.elf_format.specs.declared.error.ElfError.{ElfError}
 use Rattle.elf_format.specs.Chain.{◌>>=◌, each_ok, on_ok}
 use Rattle.elf_format.specs.Version.{version_index}
 use Rattle.elf_format.specs.VersionChain.{Headed}
 use Rattle.elf_format.specs.VersionName.{IndexedName, VersionFault, name_of_index, defined_version, defined_versions, version_names, version_index_count, needed_from, needed_versions, needed_names}
+use Rattle.elf_versions.specs.declared.error.VersionError.{VersionError}
+use Rattle.elf_versions.specs.Cause.{IsVersionFault}
 use Rattle.elf_versions.specs.steps.Names.{put_name, put_names, names_after}
-use Rattle.elf_versions.proofs.NameLemmas.{after_put, after_put_all, after_none, after_all, each_step, on_ok_same, then_ok, length_put}
+use Rattle.elf_versions.proofs.NameLemmas.{after_put, after_put_all, after_none, after_all, each_step, on_ok_same, then_ok, fault_stays, fault_seen}
 
 pub definitions_start : (last : ℕ) (strings : List ℕ) (definitions rest : List (Result Headed ElfError)) (names : List (Option (List ℕ))) (count : ℕ)
     → rest ≡ definitions → names ≡ replicate count None
@@ -60,3 +62,13 @@ pub needs_end : (versyms : List (List ℕ)) (strings : List ℕ) (rest : List (R
     → rest ≡ [] → on_ok (names_after version_index versyms names) (needed_versions strings rest) ≡ whole → whole ≡ Ok (names_after version_index versyms names [])
 unfolding needed_versions
 needs_end versyms strings rest names whole p h = sym h ∙ rw p refl
+
+-- why the versions of one more file are refused is why the whole is
+pub need_fault : (keys : List (List ℕ)) (strings : List ℕ) (names : List (Option (List ℕ))) (x : Result Headed ElfError) (xs before : List (Result Headed ElfError)) (whole : Result (List (Option (List ℕ))) VersionFault) (e : VersionError)
+    → before ≡ x ∷ xs → IsVersionFault (result_err (needed_from strings x)) e → on_ok (names_after version_index keys names) (needed_versions strings before) ≡ whole → IsVersionFault (result_err whole) e
+unfolding needed_versions
+need_fault keys strings names x xs before whole e p fault h =
+    let first = fault_stays (needed_from strings x) e (λ y. each_ok (needed_from strings) xs >>= (λ ys. Ok (y ∷ ys))) fault in
+    let listed = fault_stays (each_ok (needed_from strings) (x ∷ xs)) e (λ ls. Ok (flat_map (λ l. l) ls)) first in
+    let seen = fault_seen (each_ok (needed_from strings) (x ∷ xs) >>= (λ ls. Ok (flat_map (λ l. l) ls))) e (names_after version_index keys names) listed in
+    rw (sym h, p) seen

@@ -2,3 +2,4 @@ pub mod ChainLemmas
 pub mod NameLemmas
 pub mod TextLemmas
 pub mod DefinedLemmas
+pub mod LawLemmas

@@ -1,15 +1,14 @@
 -- Names by index, as they are put into a list one by one.
-use Rattle.std.proofs.Common.{◌≡◌, ℕ, zero, suc, ◌+◌, ◌-◌, ◌<◌, ◌≤◌, Bool, true, false, ◌==◌, if◌then◌else◌, List, [], ◌∷◌, ◌++◌, length, replicate, map, set, Option, Some, None, option_copied, option_map, Result, Ok, Err, refl, ap, sym, ◌∙◌, arith, inl, inr}
+use Rattle.std.proofs.Common.{◌≡◌, ℕ, zero, suc, ◌+◌, ◌-◌, ◌<◌, Bool, true, false, ◌==◌, if◌then◌else◌, List, [], ◌∷◌, ◌++◌, length, replicate, map, set, Option, Some, None, option_map, Result, Ok, Err, refl, ap, sym, ◌∙◌, arith, inl, inr}
 use Rattle.std.proofs.lemmas.Bool.Decides.{eqb_tells}
 use Rattle.std.proofs.lemmas.Grind.{common_steps}
 use Rattle.std.proofs.lemmas.List.{map-append, map-set, length-map, length-set, length-append, length-replicate}
-use Rattle.std.specs.Prelude.{slice_get}
 use Rattle.std.specs.List.{range_with_len}
 use Rattle.std.specs.Option.{option_or, option_flatten}
 use Rattle.std.specs.Result.{result_err}
 use Rattle.elf_format.specs.Chain.{◌>>=◌, each_ok, on_ok}
 use Rattle.elf_format.specs.Symbol.{last_that}
-use Rattle.elf_format.specs.VersionName.{IndexedName, VersionFault, malformed, name_of_index, names_by_index}
+use Rattle.elf_format.specs.VersionName.{IndexedName, VersionFault, name_of_index}
 use Rattle.elf_versions.specs.declared.error.VersionError.{VersionError}
 use Rattle.elf_versions.specs.declared.error.VersionError.TheVariants.{Elf, BadIndex, NoMemory}
 use Rattle.elf_versions.specs.Cause.{IsVersionFault}

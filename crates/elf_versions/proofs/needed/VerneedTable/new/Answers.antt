@@ -1,5 +1,5 @@
-use Rattle.std.proofs.Common.{◌≡◌, ℕ, sym, ◌∙◌, arith, length}
-use Rattle.elf_versions.proofs.DefinedLemmas.{needs_start, need_step, needs_end}
+use Rattle.std.proofs.lemmas.Result.{err_from_is_err_and}
+use Rattle.elf_versions.proofs.DefinedLemmas.{needs_start, need_step, needs_end, need_fault}
 use Rattle.elf_versions.proofs.needed.VerneedTable.new.Goals as goal
 
 pub loop-need-init : goal.loop-need-init
@@ -12,4 +12,6 @@ pub returns : goal.returns
 returns c = needs_end c.args.versyms c.args.strings.now c.loop-need.need-iterator c.loop-need.names _ c.in-None.ensures.steps.0 c.loop-need.invariant
 
 pub returns-in_err-put_needed : goal.returns-in_err-put_needed
-returns-in_err-put_needed c = let h = c.in_err-put_needed.ensures in let k = c.from_residual-in_err-put_needed.ensures in ?
+returns-in_err-put_needed c =
+    let p = err_from_is_err_and c.from_residual-in_err-put_needed.result c.from_residual-in_err-put_needed.ensures.1 in
+    rw (p.1, p.2) (need_fault c.args.versyms c.args.strings.now c.loop-need.names _ c.next.new.self c.loop-need.need-iterator _ _ c.in-Some.ensures.steps c.in_err-put_needed.ensures c.loop-need.invariant)
