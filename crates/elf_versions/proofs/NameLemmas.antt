@@ -6,6 +6,7 @@ use Rattle.std.proofs.lemmas.List.{map-append, map-set, length-map, length-set, 
 use Rattle.std.specs.List.{range_with_len}
 use Rattle.std.specs.Option.{option_or, option_flatten}
 use Rattle.std.specs.Result.{result_err}
+use Rattle.elf_format.proofs.SearchLemmas.{or_none}
 use Rattle.elf_format.specs.Chain.{◌>>=◌, each_ok, on_ok}
 use Rattle.elf_format.specs.Symbol.{last_that}
 use Rattle.elf_format.specs.VersionName.{IndexedName, VersionFault, name_of_index}
@@ -14,24 +15,18 @@ use Rattle.elf_versions.specs.declared.error.VersionError.TheVariants.{Elf, BadI
 use Rattle.elf_versions.specs.Cause.{IsVersionFault}
 use Rattle.elf_versions.specs.steps.Names.{name_at, put_name, put_names, names_after}
 
-Names : Type 0
-Names = List (Option (List ℕ))
-
-pub or_nothing : {X : Type 0} (a : Option X) → option_or a None ≡ a
-or_nothing None = refl
-or_nothing (Some x) = refl
-
 pub name_at_none : (n i : ℕ) → name_at (replicate n None) i ≡ None
 name_at_none zero i = refl
 name_at_none (suc n) zero = refl
 name_at_none (suc n) (suc i) = name_at_none n i
 
+flat : (v : Option (List ℕ)) → option_flatten (Some v) ≡ v
+flat None = refl
+flat (Some n) = refl
+
 name_at_set : (names : List (Option (List ℕ))) (i : ℕ) (v : Option (List ℕ)) → i < length names → name_at (set names i v) i ≡ v
 name_at_set [] i v h = absurd (omega arith)
-name_at_set (x ∷ xs) zero v h = flat v where
-  flat : (v : Option (List ℕ)) → option_flatten (Some v) ≡ v
-  flat None = refl
-  flat (Some n) = refl
+name_at_set (x ∷ xs) zero v h = flat v
 name_at_set (x ∷ xs) (suc i) v h = name_at_set xs i v (omega arith)
 
 name_at_kept : (names : List (Option (List ℕ))) (i j : ℕ) (v : Option (List ℕ)) → (i ≡ j → ⊥) → name_at (set names i v) j ≡ name_at names j
@@ -91,12 +86,8 @@ pub after_none : {X : Type 0} (index : X → ℕ) (items : List X) (n : ℕ) (ps
 after_none index [] n ps = refl
 after_none index (x ∷ xs) n ps =
     let here : option_or (name_of_index (index x) ps) (name_at (replicate n None) (index x)) ≡ name_of_index (index x) ps =
-    ap (λ o. option_or (name_of_index (index x) ps) o) (name_at_none n (index x)) ∙ or_nothing (name_of_index (index x) ps) in
+    ap (λ o. option_or (name_of_index (index x) ps) o) (name_at_none n (index x)) ∙ or_none (name_of_index (index x) ps) in
     ap (λ o. o ∷ names_after index xs (replicate n None) ps) here ∙ ap (λ os. name_of_index (index x) ps ∷ os) (after_none index xs n ps)
-
-flat : (v : Option (List ℕ)) → option_flatten (Some v) ≡ v
-flat None = refl
-flat (Some n) = refl
 
 -- the names at all indexes are the list
 all_from : (front names : List (Option (List ℕ))) (at : ℕ) → length front ≡ at → map (name_at (front ++ names)) (range_with_len at (length names)) ≡ names
@@ -151,10 +142,6 @@ fault_stays (Err fault) e k h = h
 fault_stays (Ok x) (Elf error) k h = absurd (cc)
 fault_stays (Ok x) (BadIndex index) k h = absurd (cc)
 fault_stays (Ok x) NoMemory k h = tt
-
-pub fault_kept : {A B : Type 0} (r : Result A VersionFault) (e : VersionError) (g : A → B) → IsVersionFault (result_err (on_ok g r)) e → IsVersionFault (result_err r) e
-fault_kept (Err fault) e g h = h
-fault_kept (Ok x) e g h = h
 
 pub fault_seen : {A B : Type 0} (r : Result A VersionFault) (e : VersionError) (g : A → B) → IsVersionFault (result_err r) e → IsVersionFault (result_err (on_ok g r)) e
 fault_seen (Err fault) e g h = h

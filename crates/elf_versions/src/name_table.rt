@@ -23,7 +23,6 @@ impl<'a> Model for NameTable<'a> {
 
 impl<'a> NameTable<'a> {
     /// Returns the table of `count` entries without a name.
-    #[tactic(auto, using(crate::proofs::NameLemmas::none_are_shown))]
     pub fn new(alloc: Global, count: usize) -> Result<Self, AllocError>
         ensures { IfOk result (λ table. table ≡ replicate count None) }
     {
@@ -46,7 +45,6 @@ impl<'a> NameTable<'a> {
     }
 
     /// Enters a name at an index, in place of one that is there. The table grows as needed.
-    #[tactic(auto, using(crate::proofs::NameLemmas::put_shown))]
     pub fn put(&mut self, index: u16, name: &'a [u8]) -> Result<(), AllocError>
         ensures { IfOk result (λ _. self.new ≡ put_name self.old index name.now) }
     {

@@ -1,7 +1,6 @@
 //! The text of a symbol's name with its version.
 
-ghost use Rattle.std.specs.Prelude.{◌≡◌, ◌<◌, codes, if◌then◌else◌};
-ghost use Rattle.elf_versions.specs.steps.Texts.{shown_byte};
+ghost use Rattle.std.specs.Prelude.{◌≡◌, codes, if◌then◌else◌};
 
 use crate::name::RawSymbolName;
 use std::fmt;
@@ -13,14 +12,6 @@ struct PartText<'a>(&'a [u8]);
 /// The bytes that are no UTF-8 as text: `?` for each beyond ASCII.
 #[derive(Clone, Copy)]
 struct AsciiText<'a>(&'a [u8]);
-
-/// Returns the character that stands for a byte of a part that is no UTF-8.
-fn shown_char(byte: u8) -> char
-    ensures value { result ≡ shown_byte byte }
-    ensures ascii { result < 128 }
-{
-    if byte < 128 { char::from(byte) } else { '?' }
-}
 
 impl fmt::Display for AsciiText<'_> {
     ghost use Rattle.std.specs.Prelude.{Some, map};
