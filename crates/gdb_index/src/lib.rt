@@ -15,7 +15,6 @@ mod pool_order;
 mod reader;
 mod scan_result;
 mod size;
-mod steps;
 mod table;
 mod vector;
 mod version;
@@ -29,8 +28,8 @@ pub use laws::{hash_ignores_case, indexes_are_one, layout_answers, slots_exceed_
 pub use name_order::{ByName, sort_by_name};
 pub use reader::{Parts, is_short, lookup, name_from, parts_of, vector_from};
 pub use scan_result::GdbIndexScanResult;
+pub use search_steps::Steps;
 pub use size::{IndexCounts, IndexTooLarge, checked_index_size, index_size};
-pub use steps::Steps;
 pub use table::slot_at;
 pub use vector::CuVector;
 pub use version::header_len;

@@ -11,12 +11,12 @@ ghost use Rattle.gdb_index.specs.Parts.{ArePartsOf};
 ghost use Rattle.gdb_index.specs.steps.Lookup.{seen_step};
 
 use crate::hash::gdb_hash;
-use crate::steps::Steps;
 use crate::table::slot_at;
 use crate::vector::CuVector;
 use crate::version::{MIN_HEADER_LEN, header_len, is_known, pool_field};
 use elf_words::{first_zero, read_u32};
 use gdb_index_format::BadIndex;
+use search_steps::Steps;
 use std::sync::ledger::Ledger;
 
 /// The parts of an index that a probe reads.

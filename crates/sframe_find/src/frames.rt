@@ -9,8 +9,8 @@ ghost use Rattle.sframe_find.specs.Frames.{function_address, frame_function};
 ghost use Rattle.sframe_find.specs.Ordered.{AddressesAscend};
 ghost use Rattle.sframe_find.specs.Scan.{IsScan, covers_address};
 
-use crate::steps::Steps;
 use elf_words::read_u32;
+use search_steps::Steps;
 use sframe_order::Contribution;
 use std::marker::Model;
 use std::sync::ledger::Ledger;

@@ -8,11 +8,10 @@ mod examples;
 mod fault;
 mod frames;
 mod laws;
-mod steps;
 
 pub use check::check_sframe;
 pub use examples::{a_range_is_covered, two_functions_are_listed};
 pub use fault::FindFault;
 pub use frames::{FrameFunction, OrderedFrames};
 pub use laws::{find_causes_are_one, ordered_has_no_cause, scans_are_one, sorted_is_ordered};
-pub use steps::Steps;
+pub use search_steps::Steps;

@@ -1,11 +1,13 @@
-//! A count of search steps that takes no bytes when a program runs.
+//! A count of search steps that takes no bytes when a program runs: of the slots that a probe of an index reads, and of the FDEs that a
+//! search by address reads. A bound on the steps of a search is a clause on this count.
+#![tactic(auto)]
 
 ghost use Rattle.std.specs.Prelude.{◌≡◌, ◌+◌, ◌<◌};
 
 use std::marker::Model;
 use std::sync::ledger::{Blank, Book, Ledger, Share};
 
-/// The number of FDEs that lookups have read. Contracts see it as that number, and only a lookup raises it.
+/// The number of steps that searches have taken. Contracts see it as that number, and only `tick` raises it.
 #[derive(Drop)]
 pub struct Steps<L: Ledger> {
     book: Book<L>,
@@ -34,8 +36,8 @@ impl<L: Ledger> Steps<L> {
         Steps { book, share }
     }
 
-    /// Counts one FDE.
-    pub(crate) fn tick(&mut self)
+    /// Counts one step.
+    pub fn tick(&mut self)
         ensures { self.new ≡ self.old + 1 }
     {
         self.book.add(&mut self.share, 1);
