@@ -1,25 +1,27 @@
 -- The CU vectors of the names of one bucket, element by element.
-use Rattle.std.proofs.Common.{◌≡◌, ℕ, zero, suc, ◌+◌, ◌<◌, Bool, true, false, cond, List, [], ◌∷◌, ◌++◌, length, map, get_or, set, take, slice_get, Some, sym, refl, ap, subst, ◌∙◌, append_assoc, arith}
-use Rattle.std.specs.Prelude.{◌^◌}
-use Rattle.std.specs.List.{All, list_any}
+use Rattle.std.proofs.Common.{◌≡◌, ℕ, zero, suc, ◌+◌, ◌<◌, Bool, true, false, cond, List, [], ◌∷◌, ◌++◌, length, map, get_or, set, take, slice_get, Some, replicate, sym, refl, ap, subst, ◌∙◌, append_assoc, arith, inl, inr}
+use Rattle.std.specs.Prelude.{◌^◌, ◌==◌, ◌≤◌}
+use Rattle.std.specs.List.{All, list_any, filter}
 use Rattle.std.specs.List.Sorted.{IsPermutation, IsNonDecreasing}
 use Rattle.std.specs.Str.{bytes_eq}
-use Rattle.std.proofs.lemmas.Bool.{cond-true, cond-false}
-use Rattle.std.proofs.lemmas.List.{append-nil, map_push, take_more}
-use Rattle.std.proofs.lemmas.List.Elements.{All-push, All-append}
+use Rattle.std.proofs.lemmas.Bool.{cases_eq, cond-true, cond-false, eq-eqb, ne_eqb}
+use Rattle.std.proofs.lemmas.List.{append-nil, map_push, take_more, length-append, length-set, length-replicate, get_or-set_same, get_or-set_other, get_or-replicate}
+use Rattle.std.proofs.lemmas.List.FromFn.{fill_by_all, length-map-range_with_len, get_or-map-range_with_len}
+use Rattle.std.proofs.lemmas.List.Elements.{All-push, All-append, filter-append}
 use Rattle.indexmap.specs.IndexSet.{insert_key}
 use Rattle.gdb_index.specs.Scan.{HaveSmallWords}
 use Rattle.gdb_index_format.specs.declared.name_words.NameWords.{NameWords}
 use Rattle.gdb_index_format.specs.Named.{Named, named as named_of, all_named}
 use Rattle.gdb_index_format.specs.Published.{firsts}
 use Rattle.gdb_scan.specs.Groups.{names_of, values_of, groups}
+use Rattle.gdb_scan.proofs.Sounding.{filter_le}
 use Rattle.gdb_scan.proofs.Grouping.{Name, push_new, firsts-push, same_from, eq_same, Lacks, Differ, Differ-firsts, tabled, one_more, values-push}
 use Rattle.gdb_tables.specs.declared.element.NamedElement.{NamedElement}
 use Rattle.gdb_tables.specs.declared.element.IndexedElement.{IndexedElement}
 use Rattle.gdb_tables.specs.declared.hashed_name.HashedName.{HashedName}
 use Rattle.gdb_tables.specs.Merged.{AreSorted}
 use Rattle.gdb_tables.specs.steps.Distributed.{element_shown, elements_shown}
-use Rattle.gdb_tables.specs.steps.Vectors.{keys_shown, without_elements, AreIndexed, AreBelow, with_element, with_elements, as_groups, AddsSorted}
+use Rattle.gdb_tables.specs.steps.Vectors.{keys_shown, without_elements, AreIndexed, AreBelow, element_counts, with_element, with_elements, as_groups, AddsSorted}
 use Rattle.gdb_tables.proofs.Merging.{sorted_push}
 use Rattle.gdb_tables.proofs.Pooled.{sorted_append}
 
@@ -104,6 +106,47 @@ indexed_below fs [] (e ∷ es) h k d l = absurd h
 indexed_below fs (p ∷ ps) [] h k d l = absurd h
 indexed_below fs (p ∷ ps) (e ∷ es) h zero d l = in_range fs e.index p.0 h.0
 indexed_below fs (p ∷ ps) (e ∷ es) h (suc k) d l = indexed_below fs ps es h.2 k d (omega arith)
+
+-- ---- counts
+
+abbrev has_index : ℕ → IndexedElement → Bool
+has_index i e = e.index == i
+
+pub counts_long : (names : ℕ) (es : List IndexedElement) → length (element_counts names es) ≡ names
+counts_long names es = length-map-range_with_len (λ i. length (filter (has_index i) es)) 0 names
+
+count_here : (names : ℕ) (es : List IndexedElement) (i : ℕ) → i < names → get_or (element_counts names es) i 0 ≡ length (filter (has_index i) es)
+count_here names es i l = get_or-map-range_with_len (λ i. length (filter (has_index i) es)) 0 names i i 0 l (omega arith)
+
+pub counted_none : (names : ℕ) → replicate names 0 ≡ element_counts names []
+counted_none names = fill_by_all (λ i. length (filter (has_index i) [])) (replicate names 0) names 0 (length-replicate names 0) (λ k l. get_or-replicate names k 0 0 l)
+
+-- no name has more elements than there are
+pub count_small : (names : ℕ) (es : List IndexedElement) (i : ℕ) → i < names → get_or (element_counts names es) i 0 ≤ length es
+count_small names es i l = omega (arith, count_here names es i l, filter_le (has_index i) es)
+
+pub counted_more : (names : ℕ) (es : List IndexedElement) (k : ℕ) (e : IndexedElement) (counts : List ℕ) → k < length es → e ≡ get_or es k e → e.index < names → counts ≡ element_counts names (take k es) → set counts e.index (get_or counts e.index 0 + 1) ≡ element_counts names (take (k + 1) es)
+counted_more names es k e counts l is below so_far =
+    let done = take k es in
+    let more : take (k + 1) es ≡ done ++ e ∷ [] = take_more es k e l ∙ ap (λ (x : IndexedElement). done ++ x ∷ []) (sym is) in
+    ap (λ cs. set cs e.index (get_or cs e.index 0 + 1)) so_far
+    ∙ fill_by_all (λ i. length (filter (has_index i) (done ++ e ∷ []))) (set (element_counts names done) e.index (get_or (element_counts names done) e.index 0 + 1)) names 0 (length-set (element_counts names done) e.index (get_or (element_counts names done) e.index 0 + 1) ∙ counts_long names done) each
+    ∙ sym (ap (element_counts names) more) where
+      each : (i : ℕ) → i < names → get_or (set (element_counts names (take k es)) e.index (get_or (element_counts names (take k es)) e.index 0 + 1)) i 0 ≡ length (filter (has_index i) (take k es ++ e ∷ []))
+      each i less =
+          elim (cases_eq i e.index) [
+            | inl here ↦
+                ap (λ j. get_or (set (element_counts names (take k es)) e.index (get_or (element_counts names (take k es)) e.index 0 + 1)) j 0) here
+                ∙ get_or-set_same (element_counts names (take k es)) e.index (get_or (element_counts names (take k es)) e.index 0 + 1) 0 (omega (arith, below, counts_long names (take k es)))
+                ∙ ap (λ n. n + 1) (count_here names (take k es) e.index below)
+                ∙ sym (length-append (filter (has_index e.index) (take k es)) (e ∷ []))
+                ∙ ap length (sym (filter-append (has_index e.index) (take k es) (e ∷ []) ∙ ap (λ xs. filter (has_index e.index) (take k es) ++ xs) (cond-true (e.index == e.index) (e ∷ []) [] (eq-eqb e.index e.index refl))))
+                ∙ ap (λ j. length (filter (has_index j) (take k es ++ e ∷ []))) (sym here)
+            | inr other ↦
+                get_or-set_other (element_counts names (take k es)) e.index i (get_or (element_counts names (take k es)) e.index 0 + 1) 0 other
+                ∙ count_here names (take k es) i less
+                ∙ ap length (sym (filter-append (has_index i) (take k es) (e ∷ []) ∙ ap (λ xs. filter (has_index i) (take k es) ++ xs) (cond-false (e.index == i) (e ∷ []) [] (ne_eqb e.index i (λ x. other (sym x)))) ∙ append-nil (filter (has_index i) (take k es))))
+          ]
 
 -- ---- vectors
 

@@ -7,7 +7,7 @@ ghost use Rattle.gdb_index_format.specs.Named.{all_named};
 ghost use Rattle.gdb_index_format.specs.Published.{firsts};
 ghost use Rattle.gdb_scan.specs.Groups.{names_of, groups};
 ghost use Rattle.gdb_tables.specs.steps.Distributed.{elements_shown};
-ghost use Rattle.gdb_tables.specs.steps.Vectors.{keys_shown, without_elements, AreIndexed, AreBelow, with_elements, as_groups, AddsSorted};
+ghost use Rattle.gdb_tables.specs.steps.Vectors.{keys_shown, without_elements, AreIndexed, AreBelow, element_counts, with_elements, as_groups, AddsSorted};
 
 use crate::element::{IndexedElement, NamedElement};
 use crate::hashed_name::HashedName;
@@ -47,11 +47,11 @@ fn count_elements(
     elements: &[IndexedElement],
 ) -> Result<Vec<usize>, AllocError>
     requires { AreBelow names elements.now }
-    ensures { IfOk result (λ counts. length counts.items ≡ names) }
+    ensures { IfOk result (λ counts. counts.items ≡ element_counts names elements.now) }
 {
     let mut counts = vec![in alloc; 0usize; names]?;
     for element in elements {
-        counts[element.index] = counts[element.index].saturating_add(1);
+        counts[element.index] += 1;
     }
     Ok(counts)
 }

@@ -1,7 +1,7 @@
 -- Private steps: only private contracts cite this module.
 -- The CU vectors of the names of one bucket, as they are filled.
-use Rattle.std.specs.Prelude.{◌≡◌, ℕ, zero, suc, ◌<◌, List, [], ◌∷◌, ◌++◌, map, slice_get, Some}
-use Rattle.std.specs.List.{All}
+use Rattle.std.specs.Prelude.{◌≡◌, ℕ, zero, suc, ◌<◌, ◌==◌, List, [], ◌∷◌, ◌++◌, length, map, slice_get, Some}
+use Rattle.std.specs.List.{All, filter, range_with_len}
 use Rattle.gdb_index.specs.Scan.{HaveSmallWords}
 use Rattle.gdb_index_format.specs.Named.{Named}
 use Rattle.gdb_tables.specs.declared.element.IndexedElement.{IndexedElement}
@@ -24,6 +24,10 @@ AreIndexed names (p ∷ ps) (e ∷ es) = (slice_get names e.index ≡ Some p.0) 
 
 abbrev pub AreBelow : ℕ → List IndexedElement → Type 0
 AreBelow count es = All (λ e. e.index < count) es
+
+-- how many elements each of so many names has
+abbrev pub element_counts : ℕ → List IndexedElement → List ℕ
+element_counts names es = map (λ i. length (filter (λ e. e.index == i) es)) (range_with_len 0 names)
 
 -- the names after one more element of the CU vector of one of them
 abbrev pub with_element : List Named → ℕ → ℕ → List Named

@@ -1,5 +1,8 @@
-use Rattle.std.proofs.Common.{◌≡◌, length}
+use Rattle.std.proofs.Common.{◌≡◌, take}
+use Rattle.gdb_tables.specs.steps.Vectors.{element_counts}
 use Rattle.gdb_tables.proofs.vectors.count_elements.Given as goal
 
 abbrev pub invariant-loop-element : goal.invariant-loop-element
-invariant-loop-element l = length l.counts.items ≡ l.names
+invariant-loop-element l = record {
+  counted : l.counts.items ≡ element_counts l.names (take l.element-index l.elements);
+}
