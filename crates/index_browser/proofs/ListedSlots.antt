@@ -9,7 +9,7 @@ use Rattle.index_browser.specs.declared.slots.Taken.{Taken}
 use Rattle.index_browser.specs.Checked.{PassesTests}
 use Rattle.index_browser.specs.NameList.{elements_in}
 use Rattle.index_browser.specs.steps.Taken.{taken_in}
-use Rattle.index_browser.specs.steps.Listing.{begins_with, listed_with, listed_in, named_by}
+use Rattle.index_browser.specs.steps.Listing.{begins_with, listed_with, listed_from_slot, named_by}
 use Rattle.index_browser.proofs.ProbeAnswers.{found_slot, slot_answer}
 
 pub vector_is_there : (b : List ℕ) (s : ℕ) (t : Taken) (fault : BadIndex) → PassesTests b → s < slot_count b → Some t ≡ taken_in b s → vector_at b t.vector ≡ Err fault → ⊥
@@ -25,24 +25,24 @@ one_list : (xs ys : List ℕ) (r : Result (Option (List ℕ)) BadIndex) → r �
 one_list xs ys r p q = cc
 
 module _ (b prefix : List ℕ) (s : ℕ) where
-  pub free_is_not_listed : None ≡ taken_in b s → None ≡ listed_in b prefix s
+  pub free_is_not_listed : None ≡ taken_in b s → None ≡ listed_from_slot b prefix s
   free_is_not_listed free = ap (λ (o : Option Taken). option_and_then (listed_with b prefix) (option_and_then (λ (t : Taken). string_at b t.name) o)) free
 
   module _ (t : Taken) (taken : Some t ≡ taken_in b s) where
-    listed_by : (o : Option (List ℕ)) → o ≡ string_at b t.name → option_and_then (listed_with b prefix) o ≡ listed_in b prefix s
+    listed_by : (o : Option (List ℕ)) → o ≡ string_at b t.name → option_and_then (listed_with b prefix) o ≡ listed_from_slot b prefix s
     listed_by o named =
         ap (option_and_then (listed_with b prefix)) named
         ∙ ap (λ (x : Option Taken). option_and_then (listed_with b prefix) (option_and_then (λ (t : Taken). string_at b t.name) x)) taken
 
-    pub nameless_is_not_listed : None ≡ string_at b t.name → None ≡ listed_in b prefix s
+    pub nameless_is_not_listed : None ≡ string_at b t.name → None ≡ listed_from_slot b prefix s
     nameless_is_not_listed named = listed_by None named
 
-    pub other_is_not_listed : (name : List ℕ) → Some name ≡ string_at b t.name → begins_with prefix name ≡ false → None ≡ listed_in b prefix s
+    pub other_is_not_listed : (name : List ℕ) → Some name ≡ string_at b t.name → begins_with prefix name ≡ false → None ≡ listed_from_slot b prefix s
     other_is_not_listed name named other =
         ap (λ x. cond x (Some (named_by b name)) None) (sym other) ∙ listed_by (Some name) named
 
     pub slot_is_listed : (name words : List ℕ) → PassesTests b → s < slot_count b → Some name ≡ string_at b t.name → vector_at b t.vector ≡ Ok (Some words) → begins_with prefix name ≡ true
-        → Some (record { name = name; words = words }) ≡ listed_in b prefix s
+        → Some (record { name = name; words = words }) ≡ listed_from_slot b prefix s
     slot_is_listed name words p below named read begins =
         let f = found_slot b s t p below (sym taken) in
         let same : f.name ≡ name = one_string f.name name (string_at b t.name) f.named (sym named) in

@@ -30,7 +30,7 @@ use Rattle.gdb_index_format.specs.Probe.{probe, probe_from, step_at, slot_count,
 use Rattle.index_browser.specs.Checked.{PassesTests}
 use Rattle.index_browser.specs.NameList.{IsNameListOf, IsNameListWith, elements_in, has_prefix}
 use Rattle.index_browser.specs.Laws.{NameListsAreOne}
-use Rattle.index_browser.specs.steps.Listing.{name_in, taken_names, listed_with, listed_in, listed_slots, begins_with, HasVector, named_by, slot_named, all_slots_named, AreNamesIn}
+use Rattle.index_browser.specs.steps.Listing.{name_in, taken_names, listed_with, listed_from_slot, listed_slots, begins_with, HasVector, named_by, slot_named, all_slots_named, AreNamesIn}
 use Rattle.index_browser.proofs.Headers.{header_len-least}
 use Rattle.index_browser.proofs.ProbeAnswers.{names_have_vectors, names_differ, others_are_absent}
 
@@ -222,9 +222,9 @@ listed_one b prefix (Some name) ns names is =
     ∙ ap (λ (xs : List Named). cond (begins_with prefix name) (named_by b name ∷ xs) xs) is
     ∙ chosen (begins_with prefix name) b name (filter (begins_with prefix) names)
 
-listed_are : (b prefix : List ℕ) (ks : List ℕ) → filter_map (listed_in b prefix) ks ≡ map (named_by b) (filter (begins_with prefix) (filter_map (name_in b) ks))
+listed_are : (b prefix : List ℕ) (ks : List ℕ) → filter_map (listed_from_slot b prefix) ks ≡ map (named_by b) (filter (begins_with prefix) (filter_map (name_in b) ks))
 listed_are b prefix [] = refl
-listed_are b prefix (k ∷ ks) = listed_one b prefix (name_in b k) (filter_map (listed_in b prefix) ks) (filter_map (name_in b) ks) (listed_are b prefix ks)
+listed_are b prefix (k ∷ ks) = listed_one b prefix (name_in b k) (filter_map (listed_from_slot b prefix) ks) (filter_map (name_in b) ks) (listed_are b prefix ks)
 
 -- an element is its name with the elements of that name
 abbrev IsNamedBy : List ℕ → Named → Type 0

@@ -2,7 +2,7 @@
 
 ghost use Rattle.std.specs.Prelude.{◌≡◌, ◌<◌, ◌≤◌, ◌^◌, length, option_map, IfOk};
 ghost use Rattle.gdb_index.specs.Parts.{ArePartsOf};
-ghost use Rattle.index_browser.specs.steps.Listing.{slot_named, all_slots_named, listed_in, listed_slots};
+ghost use Rattle.index_browser.specs.steps.Listing.{slot_named, all_slots_named, listed_from_slot, listed_slots};
 ghost use Rattle.index_browser.specs.NameList.{all_listed, IsNameListOf, IsNameListWith};
 ghost use Rattle.index_browser.specs.Checked.{PassesTests};
 
@@ -31,7 +31,7 @@ fn named_at<'a>(
     requires parts { ArePartsOf index.now parts.now }
     requires passes { PassesTests index.now }
     requires within { slot < parts.now.slots }
-    ensures { option_map slot_named result ≡ listed_in index.now prefix.now slot }
+    ensures { option_map slot_named result ≡ listed_from_slot index.now prefix.now slot }
 {
     let Some(taken) = taken_at(index, parts, slot) else {
         return None;

@@ -36,11 +36,11 @@ abbrev pub listed_with : List ℕ → List ℕ → List ℕ → Option Named
 listed_with b prefix name = if begins_with prefix name then Some (named_by b name) else None
 
 -- the name of a slot with its elements, where it is taken and its name begins with a prefix
-abbrev pub listed_in : List ℕ → List ℕ → ℕ → Option Named
-listed_in b prefix s = option_and_then (listed_with b prefix) (name_in b s)
+abbrev pub listed_from_slot : List ℕ → List ℕ → ℕ → Option Named
+listed_from_slot b prefix s = option_and_then (listed_with b prefix) (name_in b s)
 
 abbrev pub listed_slots : List ℕ → List ℕ → List Named
-listed_slots b prefix = filter_map (listed_in b prefix) (range_with_len 0 (slot_count b))
+listed_slots b prefix = filter_map (listed_from_slot b prefix) (range_with_len 0 (slot_count b))
 
 -- names that are sorted, as names with elements
 abbrev pub slot_named : ByName (List ℕ) → Named

@@ -2,7 +2,7 @@ use Rattle.std.proofs.Common.{ℕ, List, [], ◌∷◌, length, Vec, Global, ap,
 use Rattle.std.proofs.lemmas.List.{length-append, map-append}
 use Rattle.gdb_index.specs.declared.name_order.ByName.{ByName}
 use Rattle.gdb_index_format.specs.Probe.{slot_count}
-use Rattle.index_browser.specs.steps.Listing.{slot_named, all_slots_named, listed_in}
+use Rattle.index_browser.specs.steps.Listing.{slot_named, all_slots_named, listed_from_slot}
 use Rattle.index_browser.proofs.Collecting.{collect_none, collect_some}
 use Rattle.index_browser.proofs.names.names_by_slot.Goals as goal
 use Rattle.index_browser.proofs.names.names_by_slot.Goals.{in-Some+in_ok-push, in_default}
@@ -12,7 +12,7 @@ Names = Vec (ByName (List ℕ)) Global
 
 pub loop-slot-preserved : goal.loop-slot-preserved
 loop-slot-preserved c =
-    let h = listed_in c.args.index.now c.args.prefix.now in
+    let h = listed_from_slot c.args.index.now c.args.prefix.now in
     let n = slot_count c.args.index.now in
     let done = all_slots_named c.loop-slot.names.items in
     record {
