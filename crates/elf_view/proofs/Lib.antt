@@ -1,4 +1,5 @@
 pub mod ClassNames
+pub mod CompressionLemmas
 pub mod NameLemmas
 pub mod RelocationLemmas
 pub mod SectionsFit

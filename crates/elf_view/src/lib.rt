@@ -1,11 +1,12 @@
 //! Views of an ELF file's bytes (System V gABI). `File` is a well-formed file: it returns its section headers,
-//! section names and bytes, its symbols with their sections, and the relocations of a section. A view borrows
-//! the file's bytes and copies none. Little-endian files of both classes are read, by one generic code.
+//! section names and bytes, its symbols with their names, sections and versions, and the relocations of a section. A
+//! view borrows the file's bytes and copies none. Little-endian files of both classes are read, by one generic code.
 #![tactic(auto)]
 
 mod any_file;
 mod enumerate;
 mod file;
+mod file_kind;
 mod header;
 mod index_entry;
 mod reloc_error;
@@ -13,13 +14,17 @@ mod relocation_list;
 mod relocation_sections;
 mod section;
 mod section_table;
+mod section_views;
 mod symbol;
 mod symbol_table;
+mod symbols;
 mod version;
 
 pub use any_file::{AnyFile, class_is_named};
 pub use elf_format::{Architecture, ElfError};
-pub use enumerate::SectionEnum;
-pub use file::{File, SectionIter};
+pub use enumerate::{RecordEnum, SectionEnum, SymbolEnum, TableIndex};
+pub use file::{File, File64, RelocationList64, SectionIter};
+pub use file_kind::FileKind;
 pub use reloc_error::RelocError;
 pub use relocation_sections::RelocationSections;
+pub use symbols::{SymbolIter, VersymView};

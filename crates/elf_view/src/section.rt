@@ -2,9 +2,10 @@
 
 ghost use Rattle.std.specs.Prelude.{◌≡◌, ◌==◌, ◌<◌, position, length, take, IfSome, option_copied};
 ghost use Rattle.elf_format.specs.Bytes;
-ghost use Rattle.elf_format.specs.Section.{section_bytes, is_name};
+ghost use Rattle.elf_format.specs.Section.{sections, section_bytes, is_name};
+ghost use Rattle.elf_format.specs.Symbol.{linked_strings};
 
-use elf_words::{Record, SHT_NOBITS, SectionHeaderFields, first_zero};
+use elf_words::{Record, Records, SHT_NOBITS, SectionHeaderFields, first_zero};
 
 /// Returns a section's bytes, or None where they are out of the file's range. A section of type NOBITS or of
 /// size 0 has no bytes, whatever its offset.
@@ -56,5 +57,25 @@ pub fn is_string_at(strings: &[u8], offset: usize, wanted: &[u8]) -> bool
     match strings.get(offset..) {
         Some(tail) => is_found(string_at(prefix_of(tail, wanted.len() + 1), 0), wanted),
         None => false,
+    }
+}
+
+/// Returns the strings in the section that a link (`sh_link`) names: none where it is 0, names no section, or the
+/// section's bytes are out of the file's range.
+#[tactic(auto, unfolding(elf_format::specs::Symbol::linked_strings))]
+pub fn strings_of_link<'a, H: SectionHeaderFields>(
+    bytes: &'a [u8],
+    headers: &Records<'a, H>,
+    link: u32,
+) -> &'a [u8]
+    requires { headers.now ≡ sections H.class bytes.now }
+    ensures { result.now ≡ linked_strings H.class bytes.now link }
+{
+    if link == 0 {
+        return &[];
+    }
+    match headers.get(link as usize) {
+        Some(header) => bytes_of_section(bytes, &header).unwrap_or(&[]),
+        None => &[],
     }
 }
