@@ -4,5 +4,6 @@ pub mod SymbolSection
 pub mod SectionData
 pub mod Relocation
 pub mod RelocFault
+pub mod GroupFault
 pub mod AnyFile
 pub mod steps
