@@ -1,6 +1,6 @@
 -- The dynamic section of a file (gABI, Dynamic Section): the first section of type SHT_DYNAMIC. Its entries are all those
 -- that it holds, also after a null tag. Their strings are those that the symbol table is linked to.
-use Rattle.std.specs.Prelude.{ℕ, ◌^◌, ◌%◌, Bool, true, not, ◌||◌, ◌&&◌, ◌==◌, nat_lt, if◌then◌else◌, List, [], Option, Some, None, option_map, option_and_then}
+use Rattle.std.specs.Prelude.{ℕ, ◌^◌, ◌%◌, Bool, true, false, not, ◌||◌, ◌&&◌, ◌==◌, nat_lt, if◌then◌else◌, List, [], Option, Some, None, option_map, option_and_then}
 use Rattle.std.specs.List.{find, list_all}
 use Rattle.elf_format.specs.Bytes.{get, is_whole, string_at, whole_records}
 use Rattle.elf_format.specs.Class.{Class, sh_type, dyn_size, d_tag, d_value}
@@ -44,7 +44,7 @@ own_name c strings entries = option_and_then (λ value. string_at strings (value
 
 -- whether a name is found in a list by a test
 abbrev pub is_known_library : (List ℕ → Bool) → Option (List ℕ) → Bool
-is_known_library contains None = Bool.false
+is_known_library contains None = false
 is_known_library contains (Some name) = contains name
 
 -- whether an entry does not name a needed library, or one that is known

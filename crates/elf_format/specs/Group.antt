@@ -1,6 +1,6 @@
 -- The section groups of a file (gABI, Section Groups): a section of type SHT_GROUP holds a word of flags, then the
 -- indexes of its members.
-use Rattle.std.specs.Prelude.{ℕ, Bool, not, ◌||◌, ◌==◌, nat_lt, if◌then◌else◌, List, [], ◌∷◌, map, slice_get, Option, Some, None, is_none, option_and_then, Result, Ok, Err}
+use Rattle.std.specs.Prelude.{ℕ, Bool, false, not, ◌||◌, ◌==◌, nat_lt, if◌then◌else◌, List, [], ◌∷◌, map, slice_get, Option, Some, None, is_none, option_and_then, Result, Ok, Err}
 use Rattle.std.specs.List.{enumerate_from, filter}
 use Rattle.elf_format.specs.Bytes.{get, is_whole, le, whole_records}
 use Rattle.elf_format.specs.Chain.{◌>>=◌, each_ok}
@@ -33,7 +33,7 @@ pub data GroupFault : Type 0 where
 
 -- whether the symbol table is the section at an index
 abbrev pub is_table_at : ℕ → Option (ℕ × List ℕ) → Bool
-is_table_at index None = Bool.false
+is_table_at index None = false
 is_table_at index (Some table) = index == table.0
 
 -- the name of the symbol at an index, which is the signature of a group

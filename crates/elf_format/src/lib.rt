@@ -11,6 +11,8 @@ mod error;
 mod examples;
 mod index;
 mod laws;
+mod version_examples;
+mod view_examples;
 
 pub use architecture::Architecture;
 pub use crel::{Crel, CrelError};
@@ -25,4 +27,11 @@ pub use index::{SectionIndex, Span, SymbolIndex};
 pub use laws::{
     file_header_numbers_are_the_standards, lists_are_read_again, no_number_is_shorter,
     numbers_are_read_again,
+};
+pub use version_examples::{
+    needed_versions_are_named, symbol_names_are_split, version_chains_are_followed,
+    version_definitions_are_named, version_texts_have_their_mark,
+};
+pub use view_examples::{
+    dynamic_entries_are_found, dynamic_tags_are_the_standards, groups_are_found,
 };

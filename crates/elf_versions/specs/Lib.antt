@@ -1,0 +1,3 @@
+pub mod Cause
+pub mod Shown
+pub mod steps
