@@ -5,5 +5,8 @@ pub mod SectionData
 pub mod Relocation
 pub mod RelocFault
 pub mod GroupFault
+pub mod TagValues
+pub mod Sonames
+pub mod SymbolVersion
 pub mod AnyFile
 pub mod steps

@@ -25,7 +25,7 @@ use crate::index_entry::IndexEntry;
 use crate::reloc_error::RelocError;
 use crate::relocation_list::{list_of_section, no_relocations};
 use crate::relocation_sections::RelocationSections;
-use crate::section::{bytes_of_section, is_string_at, string_at};
+use crate::section::{bytes_of_section, is_string_at};
 use crate::section_table::{read_section_headers, read_section_names};
 use crate::symbol::are_symbols_well_formed;
 use crate::symbol_table::{
@@ -36,6 +36,7 @@ use elf_format::{Architecture, ElfError};
 use elf_records64::Class64;
 use elf_relocs::RelocationList;
 use elf_tables::Versym;
+use elf_versions::string_at;
 use elf_words::{
     ElfClass, FileHeaderFields, Record, Records, SHF_COMPRESSED, SHN_LORESERVE, SHN_XINDEX,
     SectionHeaderFields, SectionIndex, SymFields, SymbolIndex,

@@ -4,6 +4,7 @@
 #![tactic(auto)]
 
 mod any_file;
+mod dynamic;
 mod enumerate;
 mod file;
 mod file_kind;
@@ -18,13 +19,20 @@ mod relocation_sections;
 mod section;
 mod section_table;
 mod section_views;
+mod sonames;
 mod symbol;
 mod symbol_table;
 mod symbols;
 mod version;
+mod versions;
 
 pub use any_file::{AnyFile, class_is_named};
+pub use dynamic::{DynView, DynamicTagValues};
 pub use elf_format::{Architecture, ElfError};
+pub use elf_versions::{
+    RawSymbolName, VerdauxIter, VerdefIter, VernauxIter, VerneedIter, VerneedTable, VersionError,
+    VersionNames, raw_symbol_name,
+};
 pub use enumerate::{RecordEnum, SectionEnum, SymbolEnum, TableIndex};
 pub use file::{File, File64, RelocationList64, SectionIter};
 pub use file_kind::FileKind;
@@ -32,4 +40,5 @@ pub use group::{MemberView, SectionGroup};
 pub use group_error::GroupError;
 pub use reloc_error::RelocError;
 pub use relocation_sections::RelocationSections;
+pub use sonames::{Sonames, has_complete_deps, should_enforce_undefined};
 pub use symbols::{SymbolIter, VersymView};

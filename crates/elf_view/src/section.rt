@@ -5,7 +5,8 @@ ghost use Rattle.elf_format.specs.Bytes;
 ghost use Rattle.elf_format.specs.Section.{sections, section_bytes, is_name};
 ghost use Rattle.elf_format.specs.Symbol.{linked_strings};
 
-use elf_words::{Record, Records, SHT_NOBITS, SectionHeaderFields, first_zero};
+use elf_versions::string_at;
+use elf_words::{Record, Records, SHT_NOBITS, SectionHeaderFields};
 
 /// Returns a section's bytes, or None where they are out of the file's range. A section of type NOBITS or of
 /// size 0 has no bytes, whatever its offset.
@@ -19,16 +20,6 @@ pub fn bytes_of_section<'a, H: SectionHeaderFields>(bytes: &'a [u8], header: &H)
     let start = header.sh_offset() as usize;
     let stop = start.checked_add(header.sh_size() as usize)?;
     bytes.get(start..stop)
-}
-
-/// Returns the string at an offset, without its zero byte, or None where no zero byte follows.
-#[tactic(auto, unfolding(elf_format::specs::Bytes::string_at))]
-pub fn string_at(strings: &[u8], offset: usize) -> Option<&[u8]>
-    ensures { option_copied result ≡ Bytes.string_at strings.now offset }
-{
-    let tail = strings.get(offset..)?;
-    let length = first_zero(tail)?;
-    Some(&tail[..length])
 }
 
 /// Returns the first `count` bytes, or all where there are fewer.

@@ -6,16 +6,16 @@ ghost use Rattle.std.specs.Result.{result_ok};
 ghost use Rattle.elf_format.specs.Bytes.{get};
 ghost use Rattle.elf_format.specs.Class.{st_value};
 ghost use Rattle.elf_format.specs.SectionType.{sht_gnu_verdef};
-ghost use Rattle.elf_format.specs.Symbol.{symbols, symbol_name};
+ghost use Rattle.elf_format.specs.Symbol.{symbols, symbol_strings, symbol_name};
 ghost use Rattle.elf_format.specs.Version as version;
 ghost use Rattle.elf_format.specs.declared.error.ElfError.TheVariants.{SymbolTable};
 
 use crate::enumerate::{RecordEnum, SymbolEnum};
 use crate::file::File;
-use crate::section::string_at;
 use crate::version::find_version_section;
 use elf_format::ElfError;
 use elf_tables::Versym;
+use elf_versions::string_at;
 use elf_words::{ElfClass, Records, SHT_GNU_VERDEF, SectionHeaderFields, SectionIndex, SymFields};
 
 /// Iterator over a file's symbols, from index 0 on.
@@ -39,6 +39,13 @@ impl<'a, C: ElfClass> File<'a, C> {
         ensures bound { length (symbols C.class self.now.is_dynamic self.now.bytes) < 2 ^ 64 }
     {
         RecordEnum::new(self.symbols.iter())
+    }
+
+    /// Returns the strings that the symbol table is linked to, none without a symbol table.
+    pub(crate) fn symbol_strings(&self) -> &'a [u8]
+        ensures { result.now ≡ symbol_strings C.class self.now.is_dynamic self.now.bytes }
+    {
+        self.strings
     }
 
     /// Returns the name of a symbol (`st_name`), without its zero byte. The error is `SymbolTable`, exactly where the
