@@ -1,5 +1,5 @@
--- How long a chain is, where its error stands, and what is printed of a name that was split.
-use Rattle.std.proofs.Common.{◌≡◌, ℕ, zero, suc, ◌+◌, ◌<◌, ◌≤◌, Bool, true, false, ◌==◌, nat_lt, ltb, if◌then◌else◌, cond, List, [], ◌∷◌, ◌++◌, map, take, drop, get_or, length, Some, None, Result, Ok, Err, refl, ap, sym, ◌∙◌, arith, inl, inr}
+-- How long a chain is, where its error stands, what is printed of a name that was split, and causes of refusals.
+use Rattle.std.proofs.Common.{◌≡◌, ◌≢◌, ℕ, zero, suc, ◌+◌, ◌<◌, ◌≤◌, Bool, true, false, ◌==◌, nat_lt, ltb, if◌then◌else◌, cond, List, [], ◌∷◌, ◌++◌, map, take, drop, get_or, length, Option, Some, None, Result, Ok, Err, refl, ap, sym, ◌∙◌, arith, inl, inr}
 use Rattle.std.proofs.lemmas.Bool.{ltb-true}
 use Rattle.std.proofs.lemmas.Bool.Decides.{eqb_tells, nat_tests}
 use Rattle.std.proofs.lemmas.List.{append-nil, length-map}
@@ -12,6 +12,10 @@ use Rattle.elf_format.specs.declared.error.ElfError.TheVariants.{VersionTable}
 use Rattle.elf_format.specs.Chain.{on_ok}
 use Rattle.elf_format.specs.SymbolName.{at_sign, before_at_sign, split_at, versioned_name, name_text}
 use Rattle.elf_format.specs.VersionChain.{ChainForm, HeadForm, Headed, record_at, headed_at, offsets_from, records_from, headed_from, next_of}
+use Rattle.elf_format.specs.VersionName.{VersionFault, malformed, bad_index}
+use Rattle.elf_versions.specs.declared.error.VersionError.{VersionError}
+use Rattle.elf_versions.specs.declared.error.VersionError.TheVariants.{Elf, BadIndex, NoMemory}
+use Rattle.elf_versions.specs.Cause.{IsVersionFault}
 use Rattle.elf_versions.proofs.TextLemmas.{part_whole}
 
 bounded : (b c : Bool) (e at : Result ℕ ElfError) (rest : List (Result ℕ ElfError)) (count : ℕ) → length rest ≤ count
@@ -98,3 +102,27 @@ printed_back bytes u = cases (ltb (position_or_len (λ b. b == at_sign) bytes) (
       let passes : (get_or bytes (position_or_len (λ b. b == at_sign) bytes) 0 == at_sign) ≡ true = passes_at_first (λ b. b == at_sign) bytes 0 within in
       let here : get_or bytes (position_or_len (λ b. b == at_sign) bytes) 0 ≡ at_sign = grind (arith, nat_tests) in
       found_back bytes (position_or_len (λ b. b == at_sign) bytes) u within here (rw here at (split_at_first (λ b. b == at_sign) bytes 0 within))
+
+no_fault : (fault : VersionFault) → None ≡ Some fault → ⊥
+no_fault fault e = absurd (cc)
+
+not_both : (i : ℕ) → Some malformed ≡ Some (bad_index i) → ⊥
+not_both i e = absurd (cc)
+
+same_index : (i j : ℕ) → Some (bad_index i) ≡ Some (bad_index j) → BadIndex i ≡ BadIndex j
+same_index i j e = cc
+
+-- a fault has one cause beside an allocation failure
+pub one_cause : (fault : Option VersionFault) (e f : VersionError) → IsVersionFault fault e → IsVersionFault fault f → e ≢ NoMemory → f ≢ NoMemory → e ≡ f
+one_cause fault (Elf a) (Elf b) p q m n = ap Elf (p.0 ∙ sym q.0)
+one_cause fault (Elf a) (BadIndex j) p q m n = absurd (not_both j (sym p.1 ∙ q))
+one_cause fault (BadIndex i) (Elf b) p q m n = absurd (not_both i (sym q.1 ∙ p))
+one_cause fault (BadIndex i) (BadIndex j) p q m n = same_index i j (sym p ∙ q)
+one_cause fault NoMemory f p q m n = absurd (m refl)
+one_cause fault (Elf a) NoMemory p q m n = absurd (n refl)
+one_cause fault (BadIndex i) NoMemory p q m n = absurd (n refl)
+
+pub no_cause : (e : VersionError) → IsVersionFault None e → e ≡ NoMemory
+no_cause (Elf a) p = absurd (no_fault malformed p.1)
+no_cause (BadIndex i) p = absurd (no_fault (bad_index i) p)
+no_cause NoMemory p = refl

@@ -20,7 +20,7 @@ pub use chain::{Chain, ChainRecord, VerdauxIter, VernauxIter};
 pub use defined::VersionNames;
 pub use error::VersionError;
 pub use heads::{ChainHead, HeadChain, VerdefIter, VerneedIter};
-pub use laws::{chains_are_bounded, names_are_printed_back};
+pub use laws::{chains_are_bounded, names_are_printed_back, version_causes_are_one};
 pub use name::{RawSymbolName, raw_symbol_name};
 pub use needed::VerneedTable;
 pub use strings::string_at;
