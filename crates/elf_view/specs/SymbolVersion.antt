@@ -5,6 +5,6 @@ use Rattle.elf_format.specs.SymbolName.{VersionedName}
 use Rattle.elf_format.specs.Version.{version_index, is_hidden_version}
 
 -- a name with the version of a record (Versym): the default one where it is not hidden. Without a record it has no version
-abbrev pub with_version : List (Option (List ℕ)) → Option (List ℕ) → List ℕ → VersionedName
-with_version names None name = record { name = name; version = None; is_default = true }
-with_version names (Some versym) name = record { name = name; version = option_flatten (slice_get names (version_index versym)); is_default = not (is_hidden_version versym) }
+abbrev pub versioned_by : List (Option (List ℕ)) → Option (List ℕ) → List ℕ → VersionedName
+versioned_by names None name = record { name = name; version = None; is_default = true }
+versioned_by names (Some versym) name = record { name = name; version = option_flatten (slice_get names (version_index versym)); is_default = not (is_hidden_version versym) }

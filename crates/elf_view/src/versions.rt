@@ -15,7 +15,7 @@ ghost use Rattle.elf_format.specs.VersionChain.{headed_from};
 ghost use Rattle.elf_format.specs.VersionName.{version_names, needed_names, definition_name, needed_name, name_in_either};
 ghost use Rattle.elf_format.specs.VersionName as named;
 ghost use Rattle.elf_versions.specs.Cause.{IsVersionFault};
-ghost use Rattle.elf_view.specs.SymbolVersion.{with_version};
+ghost use Rattle.elf_view.specs.SymbolVersion.{versioned_by};
 ghost use Rattle.elf_format.specs.declared.error.ElfError.TheVariants.{SymbolTable};
 
 use crate::file::File;
@@ -94,8 +94,8 @@ impl<'a, C: ElfClass> File<'a, C> {
     }
 
     /// Iterates over the version definitions, each with its names, and returns the index of the section that has their
-    /// strings (`sh_link`). None exactly where the file has no section of type SHT_GNU_VERDEF. A record that leaves the
-    /// section's bytes yields `VersionTable`, and is the last item.
+    /// strings (`sh_link`). None exactly where the file has no section of type SHT_GNU_VERDEF. A record that is truncated
+    /// yields `VersionTable`, and is the last item.
     #[tactic(auto, unfolding(elf_format::specs::Version::version_definitions))]
     pub fn verdef(&self) -> Option<(VerdefIter<'a>, SectionIndex)>
         ensures link { option_map (λ found. found.1.0) result ≡ version_link C.class sht_gnu_verdef self.now.bytes }
@@ -106,7 +106,7 @@ impl<'a, C: ElfClass> File<'a, C> {
 
     /// Iterates over the files from which the file needs versions, each with those versions, and returns the index of the
     /// section that has their strings (`sh_link`). None exactly where the file has no section of type SHT_GNU_VERNEED. A
-    /// record that leaves the section's bytes yields `VersionTable`, and is the last item.
+    /// record that is truncated yields `VersionTable`, and is the last item.
     #[tactic(auto, unfolding(elf_format::specs::Version::version_needs))]
     pub fn verneed(&self) -> Option<(VerneedIter<'a>, SectionIndex)>
         ensures link { option_map (λ found. found.1.0) result ≡ version_link C.class sht_gnu_verneed self.now.bytes }
@@ -140,7 +140,7 @@ impl<'a, C: ElfClass> File<'a, C> {
         index: usize,
         names: &VersionNames<'a>,
     ) -> Result<RawSymbolName<'a>, ElfError>
-        ensures found { result_ok result ≡ option_map (with_version names.now (slice_get (version.symbol_versions C.class self.now.bytes) index)) (symbol_name C.class self.now.is_dynamic self.now.bytes (C.Sym.contents symbol.now)) }
+        ensures found { result_ok result ≡ option_map (versioned_by names.now (slice_get (version.symbol_versions C.class self.now.bytes) index)) (symbol_name C.class self.now.is_dynamic self.now.bytes (C.Sym.contents symbol.now)) }
         ensures error { IfErr result (λ e. e ≡ SymbolTable) }
     {
         let name = self.symbol_name(symbol)?;
@@ -159,7 +159,7 @@ impl<'a, C: ElfClass> File<'a, C> {
     }
 
     /// Returns the table of the versions that the symbols need, by their version records. The error is `Elf` with
-    /// `VersionTable`, exactly where a record leaves its section's bytes or the name of a needed version is unreadable.
+    /// `VersionTable`, exactly where a record is truncated or the name of a needed version is unreadable.
     /// `NoMemory` comes where an allocation fails.
     #[tactic(auto, unfolding(elf_format::specs::Version::version_needs))]
     pub fn verneed_table(&self, alloc: Global) -> Result<VerneedTable<'a>, VersionError>
