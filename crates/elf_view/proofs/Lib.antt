@@ -1,4 +1,8 @@
 pub mod ClassNames
+pub mod CompressionLemmas
+pub mod DynamicLemmas
+pub mod GroupLemmas
 pub mod NameLemmas
 pub mod RelocationLemmas
 pub mod SectionsFit
+pub mod SonameLemmas

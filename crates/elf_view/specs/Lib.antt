@@ -1,6 +1,12 @@
 pub mod Parsed
+pub mod Expected
 pub mod SymbolSection
 pub mod SectionData
 pub mod Relocation
 pub mod RelocFault
+pub mod GroupFault
+pub mod TagValues
+pub mod Sonames
+pub mod SymbolVersion
 pub mod AnyFile
+pub mod steps

@@ -1,5 +1,5 @@
--- The bytes of a section that is not compressed (gABI, Sections: SHF_COMPRESSED).
-use Rattle.std.specs.Prelude.{ℕ, if◌then◌else◌, List, Option, Some, None, is_none}
+-- The bytes of a section that is not compressed (gABI, Sections: SHF_COMPRESSED), and its name as it is shown.
+use Rattle.std.specs.Prelude.{ℕ, if◌then◌else◌, List, ◌++◌, codes, decimal, Option, Some, None, is_none}
 use Rattle.elf_format.specs.declared.error.ElfError.{ElfError}
 use Rattle.elf_format.specs.declared.error.ElfError.TheVariants.{SectionData, Compressed}
 use Rattle.elf_format.specs.Bytes.{get}
@@ -17,3 +17,8 @@ data_fault c file header =
     if is_none (section_bytes c file header) then Some SectionData
     else if has_flag (get (sh_flags c) header) shf_compressed then Some Compressed
     else None
+
+-- the name of the section at an index as it is shown: `<index N>` where it is unreadable
+abbrev pub display_name : ℕ → Option (List ℕ) → List ℕ
+display_name index None = codes "<index " ++ decimal index ++ codes ">"
+display_name index (Some name) = name

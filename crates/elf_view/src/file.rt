@@ -7,7 +7,7 @@ ghost use Rattle.std.specs.List.{enumerate_from};
 ghost use Rattle.std.specs.Result.{result_ok, result_err};
 ghost use Rattle.elf_format.specs.Architecture.{architecture_of};
 ghost use Rattle.elf_format.specs.Bytes.{get};
-ghost use Rattle.elf_format.specs.Class.{e_machine};
+ghost use Rattle.elf_format.specs.Class.{e_machine, e_flags};
 ghost use Rattle.elf_format.specs.Section.{file_header, sections, section_bytes, section_name, section_of_name, is_name};
 ghost use Rattle.elf_format.specs.Symbol.{symbols, section_of_symbol};
 ghost use Rattle.elf_format.specs.Fault.{class_of, fault};
@@ -19,19 +19,24 @@ ghost use Rattle.elf_view.specs.RelocFault.{IsRelocFault};
 ghost use Rattle.elf_view.specs.SectionData.{plain_bytes, data_fault};
 ghost use Rattle.elf_format.specs.declared.error.ElfError.TheVariants.{SectionTable, SectionData, SymbolIndex as MissingSymbol};
 
-use crate::enumerate::SectionEnum;
+use crate::enumerate::{RecordEnum, SectionEnum};
 use crate::header::read_header;
 use crate::index_entry::IndexEntry;
 use crate::reloc_error::RelocError;
 use crate::relocation_list::{list_of_section, no_relocations};
 use crate::relocation_sections::RelocationSections;
-use crate::section::{bytes_of_section, is_string_at, string_at};
+use crate::section::{bytes_of_section, is_string_at};
 use crate::section_table::{read_section_headers, read_section_names};
 use crate::symbol::are_symbols_well_formed;
-use crate::symbol_table::{find_symbol_table, read_section_indexes, read_symbols};
-use crate::version::are_versions_well_formed;
+use crate::symbol_table::{
+    find_symbol_table, read_section_indexes, read_symbol_strings, read_symbols,
+};
+use crate::version::{are_versions_well_formed, read_symbol_versions};
 use elf_format::{Architecture, ElfError};
+use elf_records64::Class64;
 use elf_relocs::RelocationList;
+use elf_tables::Versym;
+use elf_versions::string_at;
 use elf_words::{
     ElfClass, FileHeaderFields, Record, Records, SHF_COMPRESSED, SHN_LORESERVE, SHN_XINDEX,
     SectionHeaderFields, SectionIndex, SymFields, SymbolIndex,
@@ -42,16 +47,24 @@ use std::marker::Model;
 /// Iterator over a file's section headers, from index 0 on.
 pub type SectionIter<'a, C> = Records<'a, <C as ElfClass>::SectionHeader>;
 
+/// A well-formed file of ELFCLASS64.
+pub type File64<'a> = File<'a, Class64>;
+
+/// A list of relocations of a file of ELFCLASS64.
+pub type RelocationList64<'a> = RelocationList<'a, Class64>;
+
 /// A well-formed file of a class.
 #[derive(Drop)]
 pub struct File<'a, C: ElfClass> {
-    bytes: &'a [u8],
-    is_dynamic: bool,
+    pub(crate) bytes: &'a [u8],
+    pub(crate) is_dynamic: bool,
     architecture: Architecture,
-    headers: Records<'a, C::SectionHeader>,
-    names: &'a [u8],
-    symbols: Records<'a, C::Sym>,
+    pub(crate) headers: Records<'a, C::SectionHeader>,
+    pub(crate) names: &'a [u8],
+    pub(crate) symbols: Records<'a, C::Sym>,
     section_indexes: Records<'a, IndexEntry>,
+    pub(crate) strings: &'a [u8],
+    pub(crate) versions: Records<'a, Versym>,
 }
 
 impl<'a, C: ElfClass> Model for File<'a, C> {
@@ -61,7 +74,7 @@ impl<'a, C: ElfClass> Model for File<'a, C> {
 
     ghost view = { λ f. record { bytes = f.bytes.now; is_dynamic = f.is_dynamic } };
 
-    ghost invariant = { λ f. IsParsed C.class f.is_dynamic f.bytes.now f.architecture f.headers f.names.now f.symbols f.section_indexes };
+    ghost invariant = { λ f. IsParsed C.class f.is_dynamic f.bytes.now f.architecture f.headers f.names.now f.symbols f.section_indexes f.strings.now f.versions };
 }
 
 impl<'a, C: ElfClass> File<'a, C> {
@@ -85,8 +98,11 @@ impl<'a, C: ElfClass> File<'a, C> {
         if !are_versions_well_formed::<C>(bytes, &headers) {
             return Err(ElfError::VersionTable);
         }
-        let symbols = read_symbols::<C>(bytes, is_dynamic, &headers);
-        let section_indexes = read_section_indexes::<C>(bytes, is_dynamic, &headers);
+        let table = find_symbol_table::<C>(bytes, is_dynamic, &headers);
+        let symbols = read_symbols::<C>(bytes, is_dynamic, table);
+        let section_indexes = read_section_indexes::<C>(bytes, is_dynamic, &headers, table);
+        let strings = read_symbol_strings::<C>(bytes, is_dynamic, &headers, table);
+        let versions = read_symbol_versions::<C>(bytes, &headers);
         Ok(File {
             bytes,
             is_dynamic,
@@ -95,6 +111,8 @@ impl<'a, C: ElfClass> File<'a, C> {
             names,
             symbols,
             section_indexes,
+            strings,
+            versions,
         })
     }
 
@@ -128,6 +146,21 @@ impl<'a, C: ElfClass> File<'a, C> {
         self.architecture
     }
 
+    /// Returns the file header.
+    #[tactic(auto, using(crate::proofs::ClassNames::has_whole_header))]
+    pub(crate) fn header(&self) -> C::FileHeader
+        ensures { C.FileHeader.contents result ≡ file_header C.class self.now.bytes }
+    {
+        read_header::<C>(self.bytes).unwrap()
+    }
+
+    /// Returns the flags of the machine (`e_flags`).
+    pub fn eflags(&self) -> u32
+        ensures { result ≡ get (e_flags C.class) (file_header C.class self.now.bytes) }
+    {
+        self.header().e_flags()
+    }
+
     /// Returns the number of sections, the null section at index 0 included.
     pub fn num_sections(&self) -> usize
         ensures { result ≡ length (sections C.class self.now.bytes) }
@@ -150,7 +183,7 @@ impl<'a, C: ElfClass> File<'a, C> {
         ensures sections { result ≡ enumerate_from 0 (sections C.class self.now.bytes) }
         ensures fit { 40 * length (sections C.class self.now.bytes) ≤ length self.now.bytes }
     {
-        SectionEnum::new(self.headers.iter())
+        RecordEnum::new(self.headers.iter())
     }
 
     /// Returns the section header at an index. The error is `SectionTable`, exactly where the index is not below

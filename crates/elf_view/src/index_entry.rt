@@ -1,5 +1,6 @@
-//! Entries of a section of type SHT_SYMTAB_SHNDX: the section index of a symbol whose `st_shndx` is SHN_XINDEX
-//! (gABI, Symbol Table).
+//! Words of sections that hold section indexes: those of type SHT_SYMTAB_SHNDX, which have the section index of a
+//! symbol whose `st_shndx` is SHN_XINDEX, and those of type SHT_GROUP, which begin with flags (gABI, Symbol Table and
+//! Section Groups).
 
 ghost use Rattle.std.specs.Prelude.{◌≡◌};
 ghost use Rattle.std.proofs.Common.{lit<};
@@ -7,7 +8,7 @@ ghost use Rattle.elf_format.specs.Bytes.{le};
 
 use elf_words::{Record, read_u32};
 
-/// A section index in four bytes.
+/// A section index, or the flags of a group, in four bytes.
 #[derive(Clone, Copy)]
 pub struct IndexEntry {
     pub bytes: [u8; 4],
@@ -37,10 +38,17 @@ impl Record for IndexEntry {
 }
 
 impl IndexEntry {
+    /// Returns the number in the four bytes.
+    pub fn word(&self) -> u32
+        ensures { result ≡ le self.now.bytes 0 4 }
+    {
+        read_u32(&self.bytes, 0)
+    }
+
     /// Returns the section index, 0 for none.
     pub fn index(&self) -> usize
         ensures { result ≡ le self.now.bytes 0 4 }
     {
-        read_u32(&self.bytes, 0) as usize
+        self.word() as usize
     }
 }

@@ -1,11 +1,16 @@
 //! Views of an ELF file's bytes (System V gABI). `File` is a well-formed file: it returns its section headers,
-//! section names and bytes, its symbols with their sections, and the relocations of a section. A view borrows
-//! the file's bytes and copies none. Little-endian files of both classes are read, by one generic code.
+//! section names and bytes, its symbols with their names, sections and versions, and the relocations of a section. A
+//! view borrows the file's bytes and copies none. Little-endian files of both classes are read, by one generic code.
 #![tactic(auto)]
 
 mod any_file;
+mod dynamic;
 mod enumerate;
 mod file;
+mod file_kind;
+mod group;
+mod group_error;
+mod groups;
 mod header;
 mod index_entry;
 mod reloc_error;
@@ -13,13 +18,27 @@ mod relocation_list;
 mod relocation_sections;
 mod section;
 mod section_table;
+mod section_views;
+mod sonames;
 mod symbol;
 mod symbol_table;
+mod symbols;
 mod version;
+mod versions;
 
 pub use any_file::{AnyFile, class_is_named};
+pub use dynamic::{DynView, DynamicTagValues};
 pub use elf_format::{Architecture, ElfError};
-pub use enumerate::SectionEnum;
-pub use file::{File, SectionIter};
+pub use elf_versions::{
+    RawSymbolName, VerdauxIter, VerdefIter, VernauxIter, VerneedIter, VerneedTable, VersionError,
+    VersionNames, raw_symbol_name,
+};
+pub use enumerate::{RecordEnum, SectionEnum, SymbolEnum, TableIndex};
+pub use file::{File, File64, RelocationList64, SectionIter};
+pub use file_kind::FileKind;
+pub use group::{MemberView, SectionGroup};
+pub use group_error::GroupError;
 pub use reloc_error::RelocError;
 pub use relocation_sections::RelocationSections;
+pub use sonames::{Sonames, has_complete_deps, should_enforce_undefined};
+pub use symbols::{SymbolIter, VersymView};

@@ -2,9 +2,11 @@
 
 ghost use Rattle.std.specs.Prelude.{◌≡◌, ◌==◌, ◌<◌, position, length, take, IfSome, option_copied};
 ghost use Rattle.elf_format.specs.Bytes;
-ghost use Rattle.elf_format.specs.Section.{section_bytes, is_name};
+ghost use Rattle.elf_format.specs.Section.{sections, section_bytes, is_name};
+ghost use Rattle.elf_format.specs.Symbol.{linked_strings};
 
-use elf_words::{Record, SHT_NOBITS, SectionHeaderFields, first_zero};
+use elf_versions::string_at;
+use elf_words::{Record, Records, SHT_NOBITS, SectionHeaderFields};
 
 /// Returns a section's bytes, or None where they are out of the file's range. A section of type NOBITS or of
 /// size 0 has no bytes, whatever its offset.
@@ -18,16 +20,6 @@ pub fn bytes_of_section<'a, H: SectionHeaderFields>(bytes: &'a [u8], header: &H)
     let start = header.sh_offset() as usize;
     let stop = start.checked_add(header.sh_size() as usize)?;
     bytes.get(start..stop)
-}
-
-/// Returns the string at an offset, without its zero byte, or None where no zero byte follows.
-#[tactic(auto, unfolding(elf_format::specs::Bytes::string_at))]
-pub fn string_at(strings: &[u8], offset: usize) -> Option<&[u8]>
-    ensures { option_copied result ≡ Bytes.string_at strings.now offset }
-{
-    let tail = strings.get(offset..)?;
-    let length = first_zero(tail)?;
-    Some(&tail[..length])
 }
 
 /// Returns the first `count` bytes, or all where there are fewer.
@@ -56,5 +48,25 @@ pub fn is_string_at(strings: &[u8], offset: usize, wanted: &[u8]) -> bool
     match strings.get(offset..) {
         Some(tail) => is_found(string_at(prefix_of(tail, wanted.len() + 1), 0), wanted),
         None => false,
+    }
+}
+
+/// Returns the strings in the section that a link (`sh_link`) names: none where it is 0, names no section, or the
+/// section's bytes are out of the file's range.
+#[tactic(auto, unfolding(elf_format::specs::Symbol::linked_strings))]
+pub fn strings_of_link<'a, H: SectionHeaderFields>(
+    bytes: &'a [u8],
+    headers: &Records<'a, H>,
+    link: u32,
+) -> &'a [u8]
+    requires { headers.now ≡ sections H.class bytes.now }
+    ensures { result.now ≡ linked_strings H.class bytes.now link }
+{
+    if link == 0 {
+        return &[];
+    }
+    match headers.get(link as usize) {
+        Some(header) => bytes_of_section(bytes, &header).unwrap_or(&[]),
+        None => &[],
     }
 }

@@ -6,16 +6,16 @@ ghost use Rattle.std.specs.List.{enumerate_from};
 ghost use Rattle.elf_format.specs.Bytes.{get};
 ghost use Rattle.elf_format.specs.Class.{sh_type, sh_link};
 ghost use Rattle.elf_format.specs.Section.{sections};
-ghost use Rattle.elf_format.specs.Symbol.{last_that, symbol_table, index_table, symbols, section_indexes};
+ghost use Rattle.elf_format.specs.Symbol.{last_that, symbol_table, index_table, symbols, section_indexes, symbol_strings};
 
 use crate::index_entry::IndexEntry;
-use crate::section::bytes_of_section;
+use crate::section::{bytes_of_section, strings_of_link};
 use crate::symbol::symbol_table_type;
 use elf_words::{ElfClass, Record, Records, SHT_SYMTAB_SHNDX, SectionHeaderFields};
 
 /// Returns the last section of a type, with its index.
 #[tactic(auto, using(elf_format::proofs::SearchLemmas::or_none, elf_format::proofs::SearchLemmas::or_later))]
-fn last_of_type<'a, C: ElfClass>(
+pub fn last_of_type<'a, C: ElfClass>(
     headers: &Records<'a, C::SectionHeader>,
     section_type: u32,
 ) -> Option<(usize, C::SectionHeader)>
@@ -66,16 +66,35 @@ pub fn find_symbol_table<'a, C: ElfClass>(
 pub fn read_symbols<'a, C: ElfClass>(
     bytes: &'a [u8],
     is_dynamic: bool,
-    headers: &Records<'a, C::SectionHeader>,
+    table: Option<(usize, C::SectionHeader)>,
 ) -> Records<'a, C::Sym>
-    requires { headers.now ≡ sections C.class bytes.now }
+    requires { option_map (λ found. (found.0, C.SectionHeader.contents found.1)) table ≡ symbol_table C.class is_dynamic bytes.now }
     ensures { result ≡ symbols C.class is_dynamic bytes.now }
 {
-    let found = match find_symbol_table::<C>(bytes, is_dynamic, headers) {
+    let found = match table {
         Some((_, header)) => bytes_of_section(bytes, &header).unwrap_or(&[]),
         None => &[],
     };
     Records::whole(found)
+}
+
+/// Returns the strings that the symbol table is linked to, none without a symbol table.
+#[tactic(auto, unfolding(elf_format::specs::Symbol::symbol_strings))]
+pub fn read_symbol_strings<'a, C: ElfClass>(
+    bytes: &'a [u8],
+    is_dynamic: bool,
+    headers: &Records<'a, C::SectionHeader>,
+    table: Option<(usize, C::SectionHeader)>,
+) -> &'a [u8]
+    requires headers { headers.now ≡ sections C.class bytes.now }
+    requires table { option_map (λ found. (found.0, C.SectionHeader.contents found.1)) table ≡ symbol_table C.class is_dynamic bytes.now }
+    ensures { result.now ≡ symbol_strings C.class is_dynamic bytes.now }
+{
+    let link = match table {
+        Some((_, header)) => header.sh_link(),
+        None => 0,
+    };
+    strings_of_link(bytes, headers, link)
 }
 
 /// Returns the section that holds the section indexes of the symbols, with its index.
@@ -84,12 +103,14 @@ fn find_index_table<'a, C: ElfClass>(
     bytes: &'a [u8],
     is_dynamic: bool,
     headers: &Records<'a, C::SectionHeader>,
+    table: Option<(usize, C::SectionHeader)>,
 ) -> Option<(usize, C::SectionHeader)>
-    requires { headers.now ≡ sections C.class bytes.now }
+    requires headers { headers.now ≡ sections C.class bytes.now }
+    requires table { option_map (λ found. (found.0, C.SectionHeader.contents found.1)) table ≡ symbol_table C.class is_dynamic bytes.now }
     ensures { option_map (λ found. (found.0, C.SectionHeader.contents found.1)) result ≡ index_table C.class is_dynamic bytes.now }
 {
-    let (table, _) = find_symbol_table::<C>(bytes, is_dynamic, headers)?;
-    last_linked::<C>(headers, SHT_SYMTAB_SHNDX, table)
+    let (index, _) = table?;
+    last_linked::<C>(headers, SHT_SYMTAB_SHNDX, index)
 }
 
 /// Returns the section indexes of the symbols, none without a table of them.
@@ -98,11 +119,13 @@ pub fn read_section_indexes<'a, C: ElfClass>(
     bytes: &'a [u8],
     is_dynamic: bool,
     headers: &Records<'a, C::SectionHeader>,
+    table: Option<(usize, C::SectionHeader)>,
 ) -> Records<'a, IndexEntry>
-    requires { headers.now ≡ sections C.class bytes.now }
+    requires headers { headers.now ≡ sections C.class bytes.now }
+    requires table { option_map (λ found. (found.0, C.SectionHeader.contents found.1)) table ≡ symbol_table C.class is_dynamic bytes.now }
     ensures { result ≡ section_indexes C.class is_dynamic bytes.now }
 {
-    let found = match find_index_table::<C>(bytes, is_dynamic, headers) {
+    let found = match find_index_table::<C>(bytes, is_dynamic, headers, table) {
         Some((_, header)) => bytes_of_section(bytes, &header).unwrap_or(&[]),
         None => &[],
     };

@@ -1,12 +1,14 @@
 //! The rule on sections of symbol versions (GNU symbol versioning; LSB, Symbol Versioning).
 
-ghost use Rattle.std.specs.Prelude.{◌≡◌};
+ghost use Rattle.std.specs.Prelude.{◌≡◌, option_map};
 ghost use Rattle.elf_format.specs.Section.{sections};
-ghost use Rattle.elf_format.specs.Version.{is_well_formed_version_section};
+ghost use Rattle.elf_format.specs.Version.{is_well_formed_version_section, version_section, version_bytes, symbol_versions};
 ghost use Rattle.elf_format.specs.Fault.{has_versions};
 
 use crate::section::bytes_of_section;
 use crate::symbol::holds_whole_records;
+use crate::symbol_table::last_of_type;
+use elf_tables::Versym;
 use elf_words::{
     ElfClass, Record, Records, SHT_GNU_VERDEF, SHT_GNU_VERNEED, SHT_GNU_VERSYM, SectionHeaderFields,
 };
@@ -41,4 +43,45 @@ pub fn are_versions_well_formed<'a, C: ElfClass>(
         }
     }
     true
+}
+
+/// Returns the section of versions of a type, the last of the type.
+pub fn find_version_section<'a, C: ElfClass>(
+    bytes: &'a [u8],
+    headers: &Records<'a, C::SectionHeader>,
+    section_type: u32,
+) -> Option<C::SectionHeader>
+    requires { headers.now ≡ sections C.class bytes.now }
+    ensures { option_map C.SectionHeader.contents result ≡ version_section C.class section_type bytes.now }
+{
+    let (_, header) = last_of_type::<C>(headers, section_type)?;
+    Some(header)
+}
+
+/// Returns the bytes of the section of versions of a type, none without such a section.
+#[tactic(auto, unfolding(elf_format::specs::Version::version_bytes))]
+pub fn read_version_bytes<'a, C: ElfClass>(
+    bytes: &'a [u8],
+    headers: &Records<'a, C::SectionHeader>,
+    section_type: u32,
+) -> &'a [u8]
+    requires { headers.now ≡ sections C.class bytes.now }
+    ensures { result.now ≡ version_bytes C.class section_type bytes.now }
+{
+    match find_version_section::<C>(bytes, headers, section_type) {
+        Some(header) => bytes_of_section(bytes, &header).unwrap_or(&[]),
+        None => &[],
+    }
+}
+
+/// Returns the version records of the symbols, none without a section of them.
+#[tactic(auto, unfolding(elf_format::specs::Version::symbol_versions))]
+pub fn read_symbol_versions<'a, C: ElfClass>(
+    bytes: &'a [u8],
+    headers: &Records<'a, C::SectionHeader>,
+) -> Records<'a, Versym>
+    requires { headers.now ≡ sections C.class bytes.now }
+    ensures { result ≡ symbol_versions C.class bytes.now }
+{
+    Records::whole(read_version_bytes::<C>(bytes, headers, SHT_GNU_VERSYM))
 }

@@ -1,0 +1,2 @@
+-- Private steps: only private contracts cite these modules.
+pub mod Compression
