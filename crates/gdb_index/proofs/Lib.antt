@@ -23,3 +23,5 @@ pub mod LawLemmas
 pub mod PoolOrders
 pub mod PartsIndexed
 pub mod PartsPublished
+pub mod NamePrefixes
+pub mod NameLists

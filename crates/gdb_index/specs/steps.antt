@@ -5,3 +5,4 @@ pub mod Passed
 pub mod FilledBytes
 pub mod Lookup
 pub mod Split
+pub mod NamePrefix

@@ -2,3 +2,4 @@
 pub mod ObjectEntries
 pub mod Distributed
 pub mod Vectors
+pub mod Keyed

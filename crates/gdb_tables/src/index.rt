@@ -17,11 +17,12 @@ ghost use Rattle.gdb_scan.specs.declared.error.GdbError.TheVariants.{NoMemory};
 ghost use Rattle.gdb_tables.specs.Files.{all_parsed, file_bytes, ArePlacedIn};
 ghost use Rattle.gdb_tables.specs.Index.{IsIndexOf, AreRelocated, IsBuildCause};
 ghost use Rattle.gdb_tables.specs.Sized.{SizesIndex, IsIndexable};
+ghost use Rattle.gdb_tables.specs.steps.Keyed.{all_keyed};
 
 use crate::addresses::build_address_entries;
 use crate::sizing::compute_gdb_index_size;
 use elf_view::AnyFile;
-use gdb_index::{GdbIndexScanResult, write_gdb_index};
+use gdb_index::{ByName, GdbIndexScanResult, sort_by_name, write_gdb_index};
 use gdb_index_format::{AddressEntry, CuBoundary, IndexVersion, NameWords, Placement};
 use gdb_scan::GdbError;
 use std::alloc::{AllocError, Global};
@@ -37,13 +38,49 @@ pub struct IndexTables<'a> {
     pub index: Vec<u8>,
 }
 
-/// Sorts names by their bytes.
-fn sort_names(names: &mut Vec<NameWords<'_>>) -> Result<(), AllocError>
-    ensures sorted { OnOk result (IsSortedByKey (λ n. n.name.now) (slice_cmp nat_cmp) names.new.items) }
-    ensures same { IsPermutation names.old.items names.new.items }
+/// Returns names to be sorted, with their CU vectors.
+fn keyed_names<'a>(
+    alloc: Global,
+    names: Vec<NameWords<'a>>,
+) -> Result<Vec<ByName<'a, Vec<u32>>>, AllocError>
+    ensures { IfOk result (λ v. all_keyed v.items ≡ all_named names.entry.items) }
 {
-    names.sort_by_key(|named| named.name)?;
-    Ok(())
+    let mut keyed = Vec::with_capacity(alloc, names.len())?;
+    for named in names {
+        keyed.push(ByName::new(named.name, named.words))?;
+    }
+    Ok(keyed)
+}
+
+/// Returns sorted names with their CU vectors.
+fn plain_names<'a>(
+    alloc: Global,
+    keyed: Vec<ByName<'a, Vec<u32>>>,
+) -> Result<Vec<NameWords<'a>>, AllocError>
+    ensures { IfOk result (λ v. all_named v.items ≡ all_keyed keyed.entry.items) }
+{
+    let mut names = Vec::with_capacity(alloc, keyed.len())?;
+    for named in keyed {
+        names.push(NameWords {
+            name: named.name,
+            words: named.item,
+        })?;
+    }
+    Ok(names)
+}
+
+/// Sorts names by their bytes.
+fn sorted_names<'a>(
+    alloc: Global,
+    names: Vec<NameWords<'a>>,
+) -> Result<Vec<NameWords<'a>>, AllocError>
+    ensures sorted { IfOk result (λ v. IsSortedByKey (λ n. n.name.now) (slice_cmp nat_cmp) v.items) }
+    ensures same { IfOk result (λ v. IsPermutation (all_named names.entry.items) (all_named v.items)) }
+{
+    let mut keyed = keyed_names(alloc, names)?;
+    sort_by_name(&mut keyed);
+    let names = plain_names(alloc, keyed)?;
+    Ok(names)
 }
 
 /// Returns the bytes of the index of a scan in a version, of this size.
@@ -89,8 +126,8 @@ fn written<'a>(
     ensures sorted { IfOk result (λ t. IsSortedByKey (λ n. n.name.now) (slice_cmp nat_cmp) t.names.items) }
 {
     let index = index_bytes(alloc, size, &scan, addresses, version)?;
-    let (units, mut names) = scan.into_parts();
-    sort_names(&mut names)?;
+    let (units, names) = scan.into_parts();
+    let names = sorted_names(alloc, names)?;
     Ok(IndexTables {
         units,
         names,

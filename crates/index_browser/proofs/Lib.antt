@@ -11,3 +11,4 @@ pub mod Layouts
 pub mod LaidOut
 pub mod Found
 pub mod ListedAddresses
+pub mod ListedSlots

@@ -1,10 +1,9 @@
-use Rattle.std.proofs.Common.{◌≤◌, length}
+use Rattle.std.proofs.Common.{◌≡◌, ◌++◌}
+use Rattle.std.specs.Vec.Iter.{into_iter_items}
 use Rattle.index_browser.specs.NameList.{all_listed}
-use Rattle.index_browser.proofs.Collecting.{ListsFrom}
+use Rattle.index_browser.specs.steps.Listing.{all_slots_named}
 use Rattle.index_browser.proofs.names.entries_of.Given as goal
 
-abbrev pub invariant-loop-name : goal.invariant-loop-name
-invariant-loop-name l = record {
-  lists : ListsFrom l.index l.prefix (all_listed l.entries.items) l.names l.name-index;
-  few : length l.entries.items ≤ l.name-index;
-}
+abbrev pub invariant-loop-named : goal.invariant-loop-named
+invariant-loop-named l =
+    (l.fn.names.items ≡ l.yielded ++ into_iter_items l.named-iterator) × (all_listed l.entries.items ≡ all_slots_named l.yielded)

@@ -1,23 +1,41 @@
-use Rattle.std.proofs.Common.{ℕ, List, map, filter, sym, ap, subst, ◌∙◌}
-use Rattle.std.specs.Borrow.{Bor}
+use Rattle.std.proofs.Common.{List, ℕ, length, sym, ap, subst, arith, IsPermutation}
+use Rattle.std.proofs.lemmas.List.{length-map}
+use Rattle.std.proofs.lemmas.List.Sorted.{IsPermutation-map, length_permutation}
+use Rattle.gdb_index_format.specs.Named.{Named}
 use Rattle.index_browser.specs.declared.names.NameEntry.{NameEntry}
-use Rattle.index_browser.specs.NameList.{all_listed, IsNameListWith}
-use Rattle.index_browser.specs.steps.Listing.{shown_names, named_by, HasVector}
-use Rattle.std.specs.List.{All}
-use Rattle.index_browser.proofs.Collecting.{begins_with}
-use Rattle.index_browser.proofs.NameOrders.{listed_with, listed_none}
+use Rattle.index_browser.specs.Checked.{PassesTests}
+use Rattle.index_browser.specs.NameList.{all_listed, listed_name, IsNameListWith}
+use Rattle.index_browser.specs.steps.Listing.{slot_named, all_slots_named}
+use Rattle.index_browser.proofs.Headers.{few_slots}
+use Rattle.index_browser.proofs.NameOrders.{names_listed, slots_in_order, listed_none}
 use Rattle.index_browser.proofs.check.CheckedIndex.names_with_prefix.Goals as goal
 
 pub returns-in_default-clause-names : goal.returns-in_default-clause-names
 returns-in_default-clause-names c = subst (λ (xs : List NameEntry). IsNameListWith c.args.self.now c.args.prefix.now (all_listed xs)) (sym c.new.ensures.items) (listed_none c.args.self.now c.args.prefix.now c.in_default.ensures)
 
-pub entries_of-requires : goal.entries_of-requires
-entries_of-requires c = subst (λ (xs : List (Bor (List ℕ))). All (HasVector c.bytes-index.result.now) (shown_names xs)) (sym c.deref.ensures.value) c.in_ok-names.ensures.names.vectors
-
 pub returns-clause-names : goal.returns-clause-names
 returns-clause-names c =
-    let index = c.bytes-index.result.now in
+    let b = c.bytes.result.now in
     let prefix = c.args.prefix.now in
-    subst (λ b. IsNameListWith b prefix (all_listed c.in_ok-entries.entries.items)) c.bytes-index.ensures.bytes
-    (listed_with index prefix (shown_names c.in_ok-names.names.items) (all_listed c.in_ok-entries.entries.items) c.in_ok-names.ensures.names
-    (c.in_ok-entries.ensures.entries ∙ ap (λ (xs : List (Bor (List ℕ))). map (named_by index) (filter (begins_with prefix) (shown_names xs))) c.deref.ensures.value))
+    let old = c.in_ok-names.names.items in
+    let new = c.sort_by_name.new.names.items in
+    let passes = subst PassesTests (sym c.bytes.ensures.bytes) c.in-Some.ensures.1 in
+    let same = subst (λ (ns : List Named). IsPermutation ns (all_slots_named new)) c.in_ok-names.ensures.names (IsPermutation-map slot_named old new c.sort_by_name.ensures.same) in
+    subst (λ (x : List ℕ). IsNameListWith x prefix (all_listed c.in_ok-entries.entries.items)) c.bytes.ensures.bytes
+    (subst (λ (ns : List Named). IsNameListWith b prefix ns) (sym c.in_ok-entries.ensures)
+    (names_listed b prefix passes (all_slots_named new) same (slots_in_order new c.sort_by_name.ensures.sorted)))
+
+pub returns-clause-few : goal.returns-clause-few
+returns-clause-few c =
+    let old = c.in_ok-names.names.items in
+    let new = c.sort_by_name.new.names.items in
+    let entries = c.in_ok-entries.entries.items in
+    omega (
+      arith,
+      length-map entries listed_name,
+      ap (λ (ns : List Named). length ns) c.in_ok-entries.ensures,
+      length-map new slot_named,
+      length_permutation old new c.sort_by_name.ensures.same,
+      c.in_ok-names.ensures.few,
+      few_slots c.args.self.now c.in-Some.parts c.in-Some.ensures.0,
+    )
