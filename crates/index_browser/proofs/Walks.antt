@@ -77,6 +77,26 @@ module _ {X Y : Type 0} (f : X → Option Y) (h : ℕ → Option X) (s n : ℕ) 
   pub first_over : n ≤ s → None ≡ x
   first_over past = sym (ap (λ ks. first_found f (filter_map h ks)) (no_number s n past)) ∙ left
 
+or_nothing : {Y : Type 0} (o : Option Y) → option_or o None ≡ o
+or_nothing None = refl
+or_nothing (Some y) = refl
+
+or_later : {Y : Type 0} (a b c : Option Y) → option_or (option_or a b) c ≡ option_or a (option_or b c)
+or_later None b c = refl
+or_later (Some y) b c = refl
+
+-- what was found so far, and what the rest has
+module _ {X Y : Type 0} (f : X → Option Y) (h : ℕ → Option X) (s n : ℕ) (x found : Option Y) (left : option_or found (first_found f (filter_map h (range_with_len s (n - s)))) ≡ x) where
+  pub found_more : (more : Option Y) → s < n → more ≡ option_or found (option_and_then f (h s)) → option_or more (first_found f (filter_map h (range_with_len (s + 1) (n - (s + 1))))) ≡ x
+  found_more more below is =
+      ap (λ o. option_or o (first_found f (filter_map h (range_with_len (s + 1) (n - (s + 1)))))) is
+      ∙ or_later found (option_and_then f (h s)) (first_found f (filter_map h (range_with_len (s + 1) (n - (s + 1)))))
+      ∙ ap (option_or found) (next_first f h s n (first_found f (filter_map h (range_with_len s (n - s)))) refl below)
+      ∙ left
+
+  pub found_all : n ≤ s → found ≡ x
+  found_all past = sym (or_nothing found) ∙ sym (ap (λ ks. option_or found (first_found f (filter_map h ks))) (no_number s n past)) ∙ left
+
 -- ---- the walks of the code
 
 abbrev pub without_unit : ℕ → AddressEntry → Bool
@@ -104,3 +124,7 @@ entries_begin b p units h parts =
 
 pub slots_begin : (b : List ℕ) (f : StoredSlot → Option BrowseError) → TestsSlots b f 0
 slots_begin b f = ap (λ n. first_found f (filter_map (stored_in b) (range_with_len 0 n))) (whole (slot_count b))
+
+-- the first found so far, and over the slots from one on
+abbrev pub FindsSlots : List ℕ → (StoredSlot → Option BrowseError) → Option BrowseError → ℕ → Type 0
+FindsSlots b f found s = option_or found (first_found f (filter_map (stored_in b) (range_with_len s (slot_count b - s)))) ≡ first_found f (filter_map (stored_in b) (range_with_len 0 (slot_count b)))

@@ -1,19 +1,21 @@
 //! The tests of an index, in their order, and the first that fails.
 
-ghost use Rattle.std.specs.Prelude.{◌≡◌, ◌<◌, ◌^◌, not, nat_lt, position};
+ghost use Rattle.std.specs.Prelude.{◌≡◌, ◌<◌, ◌^◌, not, nat_lt, position, IfOk};
 ghost use Rattle.std.specs.List.{list_all};
-ghost use Rattle.std.specs.Option.{option_and_then};
+ghost use Rattle.std.specs.Option.{option_and_then, option_or, option_copied};
+ghost use Rattle.std.specs.Result.{result_err};
 ghost use Rattle.gdb_index_format.specs.Probe.{vector_at};
 ghost use Rattle.gdb_index.specs.Parts.{ArePartsOf};
 ghost use Rattle.index_browser.specs.Areas.{index_addresses, unit_count};
 ghost use Rattle.index_browser.specs.Stored.{stored_in};
 ghost use Rattle.index_browser.specs.Fault as spec;
 ghost use Rattle.index_browser.specs.steps.Offsets.{HasFormat, AreAreasOf};
+ghost use Rattle.index_browser.specs.steps.Listing.{name_in};
 ghost use Rattle.index_browser.specs.steps.Placing.{misplaced_fault_at, table_fault as table_fault_spec, parts_fault as parts_fault_spec};
 
 use crate::areas::{Areas, areas_of, count_addresses, count_units, read_address};
 use crate::error::BrowseError;
-use crate::slots::{last_slot, taken_at};
+use crate::slots::{ends_at, taken_at};
 use gdb_index::{CuVector, Parts, is_short, name_from, parts_of, vector_from};
 
 /// Returns the number of the first address entry whose unit the CU list does not have.
@@ -82,82 +84,72 @@ fn vector_fault(index: &[u8], at: usize, units: usize, slot: usize) -> Option<Br
     }
 }
 
-/// Tests the name and the CU vector of a slot, where it is taken.
-fn slot_fault(index: &[u8], parts: &Parts, units: usize, slot: usize) -> Option<BrowseError>
+/// Tests the name and the CU vector of a slot, and returns the name, or None where the slot is free.
+fn sound_name<'a>(
+    index: &'a [u8],
+    parts: &Parts,
+    units: usize,
+    slot: usize,
+) -> Result<Option<&'a [u8]>, BrowseError>
     requires parts { ArePartsOf index.now parts.now }
     requires within { slot < parts.now.slots }
-    ensures { result ≡ option_and_then (spec.slot_fault units) (stored_in index.now slot) }
+    ensures fault { result_err result ≡ option_and_then (spec.slot_fault units) (stored_in index.now slot) }
+    ensures name { IfOk result (λ name. option_copied name ≡ name_in index.now slot) }
 {
     let Some(taken) = taken_at(index, parts, slot) else {
-        return None;
+        return Ok(None);
     };
-    let Some(_name) = name_from(index, taken.name) else {
-        return Some(BrowseError::NameOutside(slot));
+    let Some(name) = name_from(index, taken.name) else {
+        return Err(BrowseError::NameOutside(slot));
     };
-    vector_fault(index, taken.vector, units, slot)
-}
-
-/// Tests the names and the CU vectors of all slots.
-#[tactic(auto, unfolding(crate::specs::Fault::stored_fault))]
-fn stored_fault(index: &[u8], parts: &Parts, units: usize) -> Option<BrowseError>
-    requires parts { ArePartsOf index.now parts.now }
-    requires units { units ≡ unit_count index.now }
-    ensures { result ≡ spec.stored_fault index.now }
-{
-    for slot in 0..parts.slots {
-        if let Some(fault) = slot_fault(index, parts, units, slot) {
-            return Some(fault);
-        }
+    match vector_fault(index, taken.vector, units, slot) {
+        Some(fault) => Err(fault),
+        None => Ok(Some(name)),
     }
-    None
 }
 
-/// Tests whether the probe for the name of a slot ends there, where the slot is taken.
-fn misplaced_fault(index: &[u8], parts: &Parts, slot: usize) -> Option<BrowseError>
+/// Tests whether the probe for the name of a slot ends there, unless an earlier slot failed this test.
+fn misplaced_fault(
+    earlier: Option<BrowseError>,
+    index: &[u8],
+    parts: &Parts,
+    name: Option<&[u8]>,
+    slot: usize,
+) -> Option<BrowseError>
     requires format { HasFormat index.now }
     requires parts { ArePartsOf index.now parts.now }
     requires within { slot < parts.now.slots }
-    ensures { result ≡ option_and_then (misplaced_fault_at index.now) (stored_in index.now slot) }
+    requires named { option_copied name ≡ name_in index.now slot }
+    ensures { result ≡ option_or earlier (option_and_then (misplaced_fault_at index.now) (stored_in index.now slot)) }
 {
-    let Some(taken) = taken_at(index, parts, slot) else {
+    if let Some(fault) = earlier {
+        return Some(fault);
+    }
+    let Some(name) = name else {
         return None;
     };
-    let Some(name) = name_from(index, taken.name) else {
-        return None;
-    };
-    if last_slot(index, parts, name) == slot {
+    if ends_at(index, parts, name, slot) {
         None
     } else {
         Some(BrowseError::Misplaced(slot))
     }
 }
 
-/// Tests whether the probes for the names of all slots end there.
-#[tactic(auto, unfolding(crate::specs::Fault::order_fault))]
-fn order_fault(index: &[u8], parts: &Parts) -> Option<BrowseError>
-    requires format { HasFormat index.now }
-    requires parts { ArePartsOf index.now parts.now }
-    ensures { result ≡ spec.order_fault index.now }
-{
-    for slot in 0..parts.slots {
-        if let Some(fault) = misplaced_fault(index, parts, slot) {
-            return Some(fault);
-        }
-    }
-    None
-}
-
-/// Tests the symbol hash table.
+/// Tests the symbol hash table: the names and the CU vectors of all slots, and last whether the probes for the names end there.
 fn table_fault(index: &[u8], parts: &Parts, units: usize) -> Option<BrowseError>
     requires format { HasFormat index.now }
     requires parts { ArePartsOf index.now parts.now }
     requires units { units ≡ unit_count index.now }
     ensures { result ≡ table_fault_spec index.now }
 {
-    match stored_fault(index, parts, units) {
-        Some(fault) => Some(fault),
-        None => order_fault(index, parts),
+    let mut misplaced = None;
+    for slot in 0..parts.slots {
+        match sound_name(index, parts, units, slot) {
+            Ok(name) => misplaced = misplaced_fault(misplaced, index, parts, name, slot),
+            Err(fault) => return Some(fault),
+        }
     }
+    misplaced
 }
 
 /// Tests the parts of an index in which probes can be made.

@@ -1,9 +1,9 @@
 //! Reads the symbol hash table of an index slot by slot (GDB manual, "Index Section Format": the symbol table).
 
-ghost use Rattle.std.specs.Prelude.{◌≡◌, ◌<◌, ◌^◌, IfSome};
+ghost use Rattle.std.specs.Prelude.{◌≡◌, ◌==◌, ◌<◌, ◌^◌, IfSome, false};
 ghost use Rattle.gdb_index_format.specs.Probe.{step_in};
 ghost use Rattle.gdb_index.specs.Parts.{ArePartsOf};
-ghost use Rattle.index_browser.specs.Stored.{last_slot as last_slot_spec};
+ghost use Rattle.index_browser.specs.Stored.{last_slot};
 ghost use Rattle.index_browser.specs.steps.Offsets.{HasFormat};
 ghost use Rattle.index_browser.specs.steps.Taken.{taken_in, does_pass};
 
@@ -52,20 +52,24 @@ fn passes(index: &[u8], parts: &Parts, name: &[u8], slot: usize) -> bool
     stored != name
 }
 
-/// Returns the slot at which the probe for a name ends.
-pub(crate) fn last_slot(index: &[u8], parts: &Parts, name: &[u8]) -> usize
+/// Reports whether the probe for the name that stands in a slot ends at that slot.
+pub(crate) fn ends_at(index: &[u8], parts: &Parts, name: &[u8], slot: usize) -> bool
     requires format { HasFormat index.now }
     requires parts { ArePartsOf index.now parts.now }
-    requires some { 0 < parts.now.slots }
-    ensures { result ≡ last_slot_spec index.now name.now }
+    requires within { slot < parts.now.slots }
+    requires here { does_pass (step_in index.now name.now slot) ≡ false }
+    ensures { result ≡ (last_slot index.now name.now == slot) }
 {
     let hash = gdb_hash(name);
     let last = parts.slots - 1;
     for step in 0..last {
-        let slot = slot_at(parts.slots, hash, step);
-        if !passes(index, parts, name, slot) {
-            return slot;
+        let at = slot_at(parts.slots, hash, step);
+        if at == slot {
+            return true;
+        }
+        if !passes(index, parts, name, at) {
+            return false;
         }
     }
-    slot_at(parts.slots, hash, last)
+    slot_at(parts.slots, hash, last) == slot
 }

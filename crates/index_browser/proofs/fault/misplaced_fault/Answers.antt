@@ -1,17 +1,24 @@
-use Rattle.std.proofs.Common.{true, false, sym, ◌∙◌}
-use Rattle.std.proofs.lemmas.Bool.{eq-eqb, ne_eqb}
+use Rattle.std.proofs.Common.{None, true, false, sym, ap, ◌∙◌}
+use Rattle.std.specs.Option.{option_and_then, option_or, option_copied}
+use Rattle.index_browser.specs.Stored.{stored_in}
 use Rattle.index_browser.specs.steps.Placing.{misplaced_fault_at}
-use Rattle.index_browser.proofs.StoredSlots.{free_passes, nameless_is_placed, place_tested}
+use Rattle.index_browser.proofs.StoredSlots.{placed_is, place_tested, own_ends}
 use Rattle.index_browser.proofs.fault.misplaced_fault.Goals as goal
 
-pub returns-in_default : goal.returns-in_default
-returns-in_default c = free_passes (misplaced_fault_at c.args.index.now) c.args.index.now c.args.slot c.in_default.ensures.taken
+pub returns-in_default-name : goal.returns-in_default-name
+returns-in_default-name c =
+    placed_is c.args.index.now c.args.slot None (ap option_copied (sym c.in_default-name.is) ∙ c.requires.named)
+    ∙ sym (ap (λ o. option_or o (option_and_then (misplaced_fault_at c.args.index.now) (stored_in c.args.index.now c.args.slot))) c.in_default.is)
 
-pub returns-in_default-name_from : goal.returns-in_default-name_from
-returns-in_default-name_from c = nameless_is_placed c.args.index.now c.args.slot c.in-Some.taken c.in-Some.ensures.taken (c.in_default-name_from.ensures {u = tt})
+pub ends_at-requires-clause-here : goal.ends_at-requires-clause-here
+ends_at-requires-clause-here c = own_ends c.args.index.now c.in-Some-name.name.now c.args.slot (ap option_copied (sym c.in-Some-name.is) ∙ c.requires.named)
 
-pub returns-then-last_slot-slot : goal.returns-then-last_slot-slot
-returns-then-last_slot-slot c = place_tested c.args.index.now c.in-Some-name_from.name.now c.args.slot c.in-Some.taken true c.in-Some.ensures.taken (c.in-Some-name_from.ensures {u = tt}) (sym (eq-eqb _ _ (sym c.last_slot.ensures ∙ c.if-last_slot-slot.true)))
+pub returns-then-ends_at : goal.returns-then-ends_at
+returns-then-ends_at c =
+    place_tested c.args.index.now c.in-Some-name.name.now c.args.slot true (ap option_copied (sym c.in-Some-name.is) ∙ c.requires.named) (sym c.if-ends_at.true ∙ c.ends_at.ensures)
+    ∙ sym (ap (λ o. option_or o (option_and_then (misplaced_fault_at c.args.index.now) (stored_in c.args.index.now c.args.slot))) c.in_default.is)
 
-pub returns-else-last_slot-slot : goal.returns-else-last_slot-slot
-returns-else-last_slot-slot c = place_tested c.args.index.now c.in-Some-name_from.name.now c.args.slot c.in-Some.taken false c.in-Some.ensures.taken (c.in-Some-name_from.ensures {u = tt}) (sym (ne_eqb _ _ (λ e. c.if-last_slot-slot.false (c.last_slot.ensures ∙ e))))
+pub returns-else-ends_at : goal.returns-else-ends_at
+returns-else-ends_at c =
+    place_tested c.args.index.now c.in-Some-name.name.now c.args.slot false (ap option_copied (sym c.in-Some-name.is) ∙ c.requires.named) (sym c.if-ends_at.false ∙ c.ends_at.ensures)
+    ∙ sym (ap (λ o. option_or o (option_and_then (misplaced_fault_at c.args.index.now) (stored_in c.args.index.now c.args.slot))) c.in_default.is)
