@@ -34,7 +34,7 @@ fn find<C: ElfClass>(alloc: Global, bytes: &[u8], is_dynamic: bool) -> Result<Fo
     let named = values
         .unwrap_or(DynamicTagValues::default())
         .lib_name(b"none")
-        == b"lib.so";
+        == b"lib.so".as_slice();
     let count = values.map(|values| values.verdefnum);
     match file.dynamic_tags() {
         Ok(entries) => Ok((

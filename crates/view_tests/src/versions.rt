@@ -47,7 +47,7 @@ fn say<C: ElfClass>(
 }
 
 /// Says it of the symbol at an index of a shared object.
-fn said(
+fn say_of(
     alloc: Global,
     class: ObjectClass,
     bytes: &[u8],
@@ -78,7 +78,7 @@ fn versions_of_symbols(rt: HostRuntime) -> Result<(), Fail> {
             (4, "one", "one", b""),
             (5, "unreadable", "unreadable", b""),
         ] {
-            match said(alloc, class, &bytes, index) {
+            match say_of(alloc, class, &bytes, index) {
                 Ok(said) => {
                     assert_eq!(rt; said.defined.as_str(), defined);
                     assert_eq!(rt; said.needed.as_str(), needed);
