@@ -103,10 +103,23 @@ fn push_digits(out: &mut Vec<u8>, bytes: &[u8]) -> Result<(), AllocError>
 }
 
 /// Appends the eight digits of an element of a CU vector.
+#[tactic(auto, unfolding(hex::specs::Hex::encode_with))]
 pub(crate) fn push_element(out: &mut Vec<u8>, element: u32) -> Result<(), AllocError>
     ensures ok { OnOk result (out.new.items ≡ out.old.items ++ word_digits element) }
 {
-    push_row(out, &element.to_be_bytes())
+    let [first, second, third, fourth] = element.to_be_bytes();
+    let digits = [
+        digit(first / 16),
+        digit(first % 16),
+        digit(second / 16),
+        digit(second % 16),
+        digit(third / 16),
+        digit(third % 16),
+        digit(fourth / 16),
+        digit(fourth % 16),
+    ];
+    out.extend_from_slice(&digits)?;
+    Ok(())
 }
 
 /// Appends the eight digits of each element of a CU vector, each after a space.
