@@ -93,7 +93,7 @@ pub fn object_of_two_units_of(alloc: Global, class: ObjectClass) -> Result<Vec<u
 }
 
 /// Returns the sections 1 to 8 of such an object. The symbol table is section 7.
-pub fn sections_of_two_units(class: ObjectClass) -> [Section<'static>; 8] {
+pub fn sections_of_two_units<'a>(class: ObjectClass) -> [Section<'a>; 8] {
     let (relocations, symbols) = match class {
         ObjectClass::Elf32 => (RELOCATIONS_32, SYMBOLS_32),
         ObjectClass::Elf64 => (RELOCATIONS, SYMBOLS),

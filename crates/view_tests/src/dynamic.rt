@@ -1,6 +1,6 @@
 //! Dynamic entries (gABI, "Dynamic Section"): all of them, the last with a tag, and the libraries that are needed.
 
-use crate::shared::{Parts, WELL_FORMED, shared_object};
+use crate::shared::{ENTRIES, Parts, shared_object, well_formed};
 use elf_format::ElfError;
 use elf_records32::Class32;
 use elf_records64::Class64;
@@ -52,7 +52,7 @@ fn find<C: ElfClass>(alloc: Global, bytes: &[u8], is_dynamic: bool) -> Result<Fo
 fn dynamic_entries_of_files(rt: HostRuntime) -> Result<(), Fail> {
     let alloc = rt.alloc();
     for (entries, expected) in [
-        (WELL_FORMED.entries, (Ok(6), Some(0), Some(2), true, true)),
+        (ENTRIES, (Ok(6), Some(0), Some(2), true, true)),
         (&[(14, 13), (14, 99)], (Ok(2), None, Some(0), false, true)),
         (&[(1, 1)], (Ok(1), None, Some(0), false, false)),
         (&[(1, 13), (1, 99)], (Ok(2), None, Some(0), false, false)),
@@ -60,7 +60,7 @@ fn dynamic_entries_of_files(rt: HostRuntime) -> Result<(), Fail> {
     ] {
         let parts = Parts {
             entries,
-            ..WELL_FORMED
+            ..well_formed()
         };
         let wide = shared_object(alloc, ObjectClass::Elf64, parts)?;
         assert_eq!(rt; find::<Class64>(alloc, &wide, true)?, expected);
@@ -69,7 +69,7 @@ fn dynamic_entries_of_files(rt: HostRuntime) -> Result<(), Fail> {
     }
     let beyond = Parts {
         entries: &[(1, 0x1_0000_000d), (14, 0x1_0000_000d)],
-        ..WELL_FORMED
+        ..well_formed()
     };
     let wide = shared_object(alloc, ObjectClass::Elf64, beyond)?;
     assert_eq!(rt;

@@ -22,16 +22,35 @@ fn object_with_group(
     signature: u32,
     words: &[u8],
 ) -> Result<Vec<u8>, AllocError> {
-    let mut sections = sections_of_two_units(class).as_slice().to_vec(alloc)?;
-    if let Some(code) = sections.get_mut(2) {
-        code.flags |= flags;
-    }
-    sections.push(Section {
-        section_type: SHT_GROUP,
-        link,
-        info: signature,
-        ..plain(b".group", 0, words)
-    })?;
+    let [
+        info,
+        relocations,
+        code,
+        other,
+        third,
+        frames,
+        symbols,
+        strings,
+    ] = sections_of_two_units(class);
+    let sections = [
+        info,
+        relocations,
+        Section {
+            flags: code.flags | flags,
+            ..code
+        },
+        other,
+        third,
+        frames,
+        symbols,
+        strings,
+        Section {
+            section_type: SHT_GROUP,
+            link,
+            info: signature,
+            ..plain(b".group", 0, words)
+        },
+    ];
     object_of_class(alloc, class, ET_REL, 62, &sections)
 }
 

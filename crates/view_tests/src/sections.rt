@@ -1,6 +1,6 @@
 //! Sections and symbols: their shown names, copies of their bytes, compressed sections, and the file's own numbers.
 
-use crate::shared::{WELL_FORMED, shared_object};
+use crate::shared::{shared_object, well_formed};
 use elf_format::{Architecture, ElfError, SectionIndex, SymbolIndex};
 use elf_records32::Class32;
 use elf_records64::Class64;
@@ -165,9 +165,9 @@ fn symbols<C: ElfClass>(bytes: &[u8]) -> Option<(usize, u64)> {
 #[test]
 fn symbols_of_files(rt: HostRuntime) -> Result<(), Fail> {
     let alloc = rt.alloc();
-    let wide = shared_object(alloc, ObjectClass::Elf64, WELL_FORMED)?;
+    let wide = shared_object(alloc, ObjectClass::Elf64, well_formed())?;
     assert_eq!(rt; symbols::<Class64>(&wide), Some((6, 16)));
-    let narrow = shared_object(alloc, ObjectClass::Elf32, WELL_FORMED)?;
+    let narrow = shared_object(alloc, ObjectClass::Elf32, well_formed())?;
     assert_eq!(rt; symbols::<Class32>(&narrow), Some((6, 16)));
     Ok(())
 }

@@ -45,15 +45,28 @@ pub(crate) struct Parts<'a> {
     pub(crate) entries: &'a [(u64, u64)],
 }
 
-/// The parts as they are where nothing is malformed.
-pub(crate) const WELL_FORMED: Parts<'static> = Parts {
-    definitions: DEFINITIONS,
-    definition_count: 2,
-    needs: NEEDS,
-    versions: VERSIONS,
-    strings: 2,
-    entries: &[(1, 13), (14, 1), (14, 13), (0x6ffffffd, 2), (0, 0), (5, 7)],
-};
+/// The dynamic entries: the needed library `lib.so`, two names of the library, of which the last is `lib.so`, the number of
+/// definitions, the null entry, and one after it.
+pub(crate) const ENTRIES: &[(u64, u64)] = &[
+    (1, 13),
+    (14, 1),
+    (14, 13),
+    (0x6ffffffd, 2),
+    (0, 0),
+    (5, 7),
+];
+
+/// Returns the parts as they are where nothing is malformed.
+pub(crate) fn well_formed<'a>() -> Parts<'a> {
+    Parts {
+        definitions: DEFINITIONS,
+        definition_count: 2,
+        needs: NEEDS,
+        versions: VERSIONS,
+        strings: 2,
+        entries: ENTRIES,
+    }
+}
 
 /// A symbol named `one`.
 const ONE: SymbolRecord = SymbolRecord {

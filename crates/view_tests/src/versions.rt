@@ -1,10 +1,10 @@
 //! Symbol versions (GNU symbol versioning): the names of versions, chains of their records, and what is refused of malformed ones.
 
-use crate::shared::{DEFINITIONS, NEEDS, Parts, WELL_FORMED, shared_object};
+use crate::shared::{DEFINITIONS, NEEDS, Parts, shared_object, well_formed};
 use elf_format::{ElfError, SectionIndex, SymbolIndex};
 use elf_records32::Class32;
 use elf_records64::Class64;
-use elf_view::{File, RawSymbolName, VersionError, raw_symbol_name};
+use elf_view::{File, RawSymbolName, VersionError, VersionNames, raw_symbol_name};
 use elf_words::ElfClass;
 use std::alloc::{AllocError, Global};
 use std::test::Fail;
@@ -69,7 +69,7 @@ fn say_of(
 fn versions_of_symbols(rt: HostRuntime) -> Result<(), Fail> {
     let alloc = rt.alloc();
     for class in [ObjectClass::Elf64, ObjectClass::Elf32] {
-        let bytes = shared_object(alloc, class, WELL_FORMED)?;
+        let bytes = shared_object(alloc, class, well_formed())?;
         for (index, defined, needed, text) in [
             (0, "", "", b"".as_slice()),
             (1, "one@@TWO", "one", b"@@TWO"),
@@ -115,74 +115,74 @@ fn malformed_versions(rt: HostRuntime) -> Result<(), Fail> {
         *count = 0;
     }
     for (parts, expected) in [
-        (WELL_FORMED, (None, None)),
+        (well_formed(), (None, None)),
         (
             Parts {
                 definitions: DEFINITIONS.get(..63).unwrap_or(&[]),
-                ..WELL_FORMED
+                ..well_formed()
             },
             (None, None),
         ),
         (
             Parts {
                 definitions: DEFINITIONS.get(..55).unwrap_or(&[]),
-                ..WELL_FORMED
+                ..well_formed()
             },
             (malformed, None),
         ),
         (
             Parts {
                 definition_count: 1,
-                ..WELL_FORMED
+                ..well_formed()
             },
             (None, None),
         ),
         (
             Parts {
                 definitions: &above,
-                ..WELL_FORMED
+                ..well_formed()
             },
             (Some(VersionError::BadIndex(3)), None),
         ),
         (
             Parts {
                 definitions: &nameless,
-                ..WELL_FORMED
+                ..well_formed()
             },
             (malformed, None),
         ),
         (
             Parts {
                 needs: NEEDS.get(..47).unwrap_or(&[]),
-                ..WELL_FORMED
+                ..well_formed()
             },
             (None, malformed),
         ),
         (
             Parts {
                 needs: &[],
-                ..WELL_FORMED
+                ..well_formed()
             },
             (None, malformed),
         ),
         (
             Parts {
                 strings: 0,
-                ..WELL_FORMED
+                ..well_formed()
             },
             (malformed, malformed),
         ),
         (
             Parts {
                 strings: 9,
-                ..WELL_FORMED
+                ..well_formed()
             },
             (malformed, malformed),
         ),
         (
             Parts {
                 versions: b"\0",
-                ..WELL_FORMED
+                ..well_formed()
             },
             (malformed, None),
         ),
@@ -227,7 +227,7 @@ fn chains_of_definitions(rt: HostRuntime) -> Result<(), Fail> {
         let parts = Parts {
             definitions,
             definition_count,
-            ..WELL_FORMED
+            ..well_formed()
         };
         let wide = shared_object(alloc, ObjectClass::Elf64, parts)?;
         assert_eq!(rt; chain::<Class64>(&wide), expected);
@@ -265,27 +265,36 @@ fn a_file_without_versions(rt: HostRuntime) -> Result<(), Fail> {
     Ok(())
 }
 
-/// Returns the number of indexes with room for a name, and the names of the indexes 0 to 3.
+/// Returns whether the name of an index is the expected one, or None where it has none.
+fn is_name(names: &VersionNames<'_>, index: usize, expected: &[u8]) -> Option<bool> {
+    match names.get(index) {
+        Some(name) => Some(name == expected),
+        None => None,
+    }
+}
+
+/// Returns how many indexes have room for a name, and of the indexes 0 to 3 whether the name is the expected one.
 fn names_by_index(alloc: Global, bytes: &[u8]) -> Result<(usize, [Option<bool>; 4]), VersionError> {
     let file = File::<Class64>::parse_bytes(bytes, true).map_err(VersionError::Elf)?;
     let names = file.get_version_names(alloc)?;
-    let expected = [b"".as_slice(), b"BASE", b"TWO", b""];
-    let mut found = [None; 4];
-    for (index, (slot, name)) in found.iter_mut().zip(expected).enumerate() {
-        *slot = names.get(index).map(|held| held == name);
-    }
+    let found = [
+        is_name(&names, 0, b""),
+        is_name(&names, 1, b"BASE"),
+        is_name(&names, 2, b"TWO"),
+        is_name(&names, 3, b""),
+    ];
     Ok((names.len(), found))
 }
 
 #[test]
 fn names_of_definitions(rt: HostRuntime) -> Result<(), Fail> {
     let alloc = rt.alloc();
-    let bytes = shared_object(alloc, ObjectClass::Elf64, WELL_FORMED)?;
+    let bytes = shared_object(alloc, ObjectClass::Elf64, well_formed())?;
     let expected = (3, [None, Some(true), Some(true), None]);
     assert_eq!(rt; names_by_index(alloc, &bytes), Ok(expected));
     let parts = Parts {
         definition_count: 0,
-        ..WELL_FORMED
+        ..well_formed()
     };
     let bytes = shared_object(alloc, ObjectClass::Elf64, parts)?;
     assert_eq!(rt; names_by_index(alloc, &bytes), Ok((1, [None; 4])));
