@@ -1,6 +1,7 @@
-//! Views of an ELF file's bytes (System V gABI). `File` is a well-formed file: it returns its section headers,
-//! section names and bytes, its symbols with their names, sections and versions, and the relocations of a section. A
-//! view borrows the file's bytes and copies none. Little-endian files of both classes are read, by one generic code.
+//! Views of an ELF file's bytes (System V gABI). `File` is a well-formed file: it returns its section headers, section
+//! names and bytes, its symbols with their names, sections and versions, its section groups, its dynamic entries, and the
+//! relocations of a section. A view borrows the file's bytes and copies none. Little-endian files of both classes are
+//! read, by one generic code.
 #![tactic(auto)]
 
 mod any_file;

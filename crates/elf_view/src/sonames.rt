@@ -15,8 +15,7 @@ use indexmap::IndexSet;
 use std::alloc::{AllocError, Global};
 use std::marker::Model;
 
-/// Names of libraries (DT_SONAME), each found in time that its length alone decides. Contracts see them as a
-/// list in which no order is told.
+/// Names of libraries (DT_SONAME), found by their hashes. Contracts see them as a list whose order has no meaning.
 #[derive(Drop)]
 pub struct Sonames<'a> {
     names: IndexSet<&'a [u8]>,
