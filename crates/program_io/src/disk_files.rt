@@ -17,8 +17,8 @@ use std::marker::Model;
 /// How many bytes are read at a time.
 pub const PIECE: usize = 16 * 1024;
 
-/// How many bytes are copied at a time: few enough for vector instructions, where longer copies are left to the processor's slower
-/// repeated move.
+/// How many bytes are copied at a time: few enough for vector instructions. Longer copies are left to the processor's repeated move, of which a
+/// count of instructions counts each step.
 const RUN: usize = 4 * 1024;
 
 /// Returns the bytes of the first run, and those after it.
