@@ -1,4 +1,5 @@
 pub mod Scan
+pub mod Hashed
 pub mod Size
 pub mod Pool
 pub mod Table

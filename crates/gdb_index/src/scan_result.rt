@@ -8,8 +8,10 @@ ghost use Rattle.gdb_index.specs.Scan.{IsWellFormedScan, HaveSmallWords, word_co
 ghost use Rattle.gdb_index.specs.Pool.{names_len};
 ghost use Rattle.gdb_index.specs.Size.{scan_counts, AreSmall};
 ghost use Rattle.gdb_index.specs.Answers.{words_under};
+ghost use Rattle.gdb_index.specs.Hashed.{hashes_of};
 ghost use Rattle.gdb_index.specs.FromParts.{AreIndexParts, in_pool_order as pool_order, pairs_of_names, scan_of_parts};
 
+use crate::hash::gdb_hash;
 use crate::pool_order::in_pool_order;
 use crate::size::IndexCounts;
 use gdb_index_format::{CuBoundary, NameWords};
@@ -22,6 +24,7 @@ use std::marker::Model;
 pub struct GdbIndexScanResult<'a> {
     units: Vec<CuBoundary>,
     names: Vec<NameWords<'a>>,
+    hashes: Vec<u32>,
     placed: usize,
     unit_counts: Vec<u32>,
 }
@@ -29,29 +32,34 @@ pub struct GdbIndexScanResult<'a> {
 impl<'a> Model for GdbIndexScanResult<'a> {
     ghost use Rattle.gdb_index_format.specs.Named.{all_named as all_named_of};
     ghost use Rattle.gdb_index.specs.Scan.{Scan, IsWellFormedScan as IsWellFormed};
+    ghost use Rattle.std.specs.Prelude.{◌≡◌};
+    ghost use Rattle.gdb_index.specs.Hashed.{hashes_of as hashes_in};
 
     ghost Value = { Scan };
 
     ghost view = { λ s. record { units = s.units.items; names = all_named_of s.names.items; placed = s.placed; unit_counts = s.unit_counts.items } };
 
-    ghost invariant = { λ s. IsWellFormed (record { units = s.units.items; names = all_named_of s.names.items; placed = s.placed; unit_counts = s.unit_counts.items }) };
+    ghost invariant = { λ s. IsWellFormed (record { units = s.units.items; names = all_named_of s.names.items; placed = s.placed; unit_counts = s.unit_counts.items }) × (s.hashes.items ≡ hashes_in (all_named_of s.names.items)) };
 }
 
 impl<'a> GdbIndexScanResult<'a> {
-    /// Makes a scan result from the units of all objects, the names in pool order, the number of placed sections and
-    /// the number of units of each object.
+    /// Makes a scan result from the units of all objects, the names in pool order with their hashes, the number of placed
+    /// sections and the number of units of each object.
     pub fn new(
         units: Vec<CuBoundary>,
         names: Vec<NameWords<'a>>,
+        hashes: Vec<u32>,
         placed: usize,
         unit_counts: Vec<u32>,
     ) -> Self
-        requires { IsWellFormedScan (record { units = units.items; names = all_named names.items; placed = placed; unit_counts = unit_counts.items }) }
+        requires hashed { hashes.items ≡ hashes_of (all_named names.items) }
+        requires well_formed { IsWellFormedScan (record { units = units.items; names = all_named names.items; placed = placed; unit_counts = unit_counts.items }) }
         ensures { result ≡ record { units = units.items; names = all_named names.entry.items; placed = placed; unit_counts = unit_counts.items } }
     {
         GdbIndexScanResult {
             units,
             names,
+            hashes,
             placed,
             unit_counts,
         }
@@ -91,9 +99,11 @@ impl<'a> GdbIndexScanResult<'a> {
         let mut unit_counts = Vec::with_capacity(alloc, 1)?;
         unit_counts.push(units.len() as u32)?;
         let names = in_pool_order(alloc, names)?;
+        let hashes = hashes_of_names(alloc, &names)?;
         Ok(GdbIndexScanResult {
             units,
             names,
+            hashes,
             placed,
             unit_counts,
         })
@@ -113,6 +123,13 @@ impl<'a> GdbIndexScanResult<'a> {
         ensures well_formed { IsWellFormedScan self.now }
     {
         &self.names
+    }
+
+    /// Returns the hashes of the names, in their order.
+    pub(crate) fn hashes(&self) -> &[u32]
+        ensures { result.now ≡ hashes_of self.now.names }
+    {
+        &self.hashes
     }
 
     /// Returns the number of placed sections, for each of which the address area of the index has room.
@@ -151,6 +168,17 @@ impl<'a> GdbIndexScanResult<'a> {
             name_bytes: count_name_bytes(&self.names),
         }
     }
+}
+
+/// Returns the hashes of names, in their order.
+fn hashes_of_names(alloc: Global, names: &[NameWords<'_>]) -> Result<Vec<u32>, AllocError>
+    ensures { IfOk result (λ v. v.items ≡ hashes_of (all_named names.now)) }
+{
+    let mut hashes = Vec::with_capacity(alloc, names.len())?;
+    for named in names {
+        hashes.push(gdb_hash(named.name))?;
+    }
+    Ok(hashes)
 }
 
 /// Reads the last element of each CU vector, so that proofs know all elements to be numbers of 32 bits.

@@ -8,6 +8,7 @@ ghost use Rattle.gdb_index_format.specs.Units.{index_units};
 ghost use Rattle.gdb_index_format.specs.Version as format;
 ghost use Rattle.gdb_index.specs.steps.Writes.{Extends};
 ghost use Rattle.gdb_index.specs.steps.FilledBytes.{ExtendsByTable};
+ghost use Rattle.gdb_index.specs.Hashed.{hashes_of};
 ghost use Rattle.gdb_index.specs.Pool.{vectors_len, names_len};
 ghost use Rattle.gdb_index.specs.Layout.{u32s_bytes, header_numbers, pool_offset, IsLayoutOf};
 ghost use Rattle.gdb_index.specs.Size.{IsIndexSize, scan_counts};
@@ -64,9 +65,16 @@ fn append_header(
 
 /// Writes the symbol hash table, in which each name stands in the first slot of its probe that no earlier name holds.
 /// Writes over bytes after it, where the constant pool will stand.
-fn append_table(buf: &mut [u8], at: usize, slots: usize, names: &[NameWords<'_>]) -> usize
+fn append_table(
+    buf: &mut [u8],
+    at: usize,
+    slots: usize,
+    names: &[NameWords<'_>],
+    hashes: &[u32],
+) -> usize
     requires room { at + 8 * slots ≤ length buf.old }
     requires counted { IsSlotCount (length names.now) slots }
+    requires hashed { hashes.now ≡ hashes_of (all_named names.now) }
     requires small { slots < 2 ^ 32 }
     requires fits { vectors_len (all_named names.now) + names_len (all_named names.now) < 2 ^ 32 }
     ensures extends { ExtendsByTable buf.old buf.new at slots (all_named names.now) }
@@ -77,7 +85,14 @@ fn append_table(buf: &mut [u8], at: usize, slots: usize, names: &[NameWords<'_>]
     if slots > 0 {
         let (front, after) = buf.split_at_mut(end);
         let room = after.len().min(PASSED_LEN * slots);
-        fill_table(&mut front[at..], &mut after[..room], slots, names, vectors);
+        fill_table(
+            &mut front[at..],
+            &mut after[..room],
+            slots,
+            names,
+            hashes,
+            vectors,
+        );
     }
     end
 }
@@ -111,7 +126,7 @@ pub fn write_gdb_index(
     let at = append_header(buf, version, units.len(), addresses.len(), slots);
     let at = append_units(buf, at, units);
     let at = append_addresses(buf, at, addresses);
-    let at = append_table(buf, at, slots, names);
+    let at = append_table(buf, at, slots, names, scan.hashes());
     let at = append_zeros(buf, at, shortcut_len(version) as usize);
     let at = append_vectors(buf, at, names);
     let at = append_names(buf, at, names);

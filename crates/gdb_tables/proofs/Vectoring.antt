@@ -5,11 +5,13 @@ use Rattle.std.specs.List.{All, list_any, filter}
 use Rattle.std.specs.List.Sorted.{IsPermutation, IsNonDecreasing}
 use Rattle.std.specs.Str.{bytes_eq}
 use Rattle.std.proofs.lemmas.Bool.{cases_eq, cond-true, cond-false, eq-eqb, ne_eqb}
-use Rattle.std.proofs.lemmas.List.{append-nil, map_push, take_more, length-append, length-set, length-replicate, get_or-set_same, get_or-set_other, get_or-replicate}
+use Rattle.std.proofs.lemmas.List.{append-nil, map-append, map_push, take_more, length-append, length-set, length-replicate, get_or-set_same, get_or-set_other, get_or-replicate}
 use Rattle.std.proofs.lemmas.List.FromFn.{fill_by_all, length-map-range_with_len, get_or-map-range_with_len}
 use Rattle.std.proofs.lemmas.List.Elements.{All-push, All-append, filter-append}
 use Rattle.indexmap.specs.IndexSet.{insert_key}
+use Rattle.gdb_index.specs.Hashed.{hashes_of}
 use Rattle.gdb_index.specs.Scan.{HaveSmallWords}
+use Rattle.gdb_index_format.specs.Hash.{name_hash}
 use Rattle.gdb_index_format.specs.declared.name_words.NameWords.{NameWords}
 use Rattle.gdb_index_format.specs.Named.{Named, named as named_of, all_named}
 use Rattle.gdb_index_format.specs.Published.{firsts}
@@ -168,6 +170,14 @@ empty_step list ls v k left rest all taken items name words inv =
       made : (m n : Name) (xs ys : List ℕ) → m ≡ n → xs ≡ ys → (let a : Named = record { name = m; words = xs } in a) ≡ record { name = n; words = ys }
       made m n xs ys p q = cc (p, q)
 
+pub hash_step : (old hs : List ℕ) (k : HashedName) (left rest : List HashedName) (all : List ℕ) → left ≡ k ∷ rest → hs ≡ old ++ k.hash ∷ [] → old ++ hashes_of (without_elements left) ≡ all → hs ++ hashes_of (without_elements rest) ≡ all
+hash_step old hs k left rest all taken items inv =
+    ap (λ xs. xs ++ hashes_of (without_elements rest)) items
+    ∙ append_assoc old (k.hash ∷ []) (hashes_of (without_elements rest))
+    ∙ ap (λ (h : ℕ). old ++ h ∷ hashes_of (without_elements rest)) k.hashed
+    ∙ sym (ap (λ l. old ++ hashes_of (without_elements l)) taken)
+    ∙ inv
+
 abbrev pub named_table : (Name → List ℕ) → List Name → List Named
 named_table f fs = map (λ m. record { name = m; words = f m }) fs
 
@@ -248,3 +258,26 @@ adds_more gs hs old new sorted fit a = (
   subst (AreSorted (gs ++ hs)) (sym a.all) (sorted_append gs hs old a.added sorted a.sorted),
   subst HaveSmallWords (sym a.all) (All-append (λ (m : Named). All (λ w. w < 2 ^ 32) m.words) old a.added fit a.fit),
 )
+
+-- ---- hashes
+
+sorted_hashes : (gs : List (Name × List ℕ)) (ns : List Named) → AreSorted gs ns → hashes_of ns ≡ map (λ g. name_hash g.0) gs
+sorted_hashes [] [] h = refl
+sorted_hashes [] (n ∷ ns) h = absurd h
+sorted_hashes (g ∷ gs) [] h = absurd h
+sorted_hashes (g ∷ gs) (n ∷ ns) h = ap (λ (m : Name). name_hash m ∷ hashes_of ns) h.0 ∙ ap (λ l. name_hash g.0 ∷ l) (sorted_hashes gs ns h.3)
+
+table_hashes : (f : Name → List ℕ) (fs : List Name) → map (λ (g : Name × List ℕ). name_hash g.0) (tabled f fs) ≡ map name_hash fs
+table_hashes f [] = refl
+table_hashes f (m ∷ fs) = ap (λ l. name_hash m ∷ l) (table_hashes f fs)
+
+key_hashes : (ks : List HashedName) → hashes_of (without_elements ks) ≡ map name_hash (keys_shown ks)
+key_hashes [] = refl
+key_hashes (k ∷ ks) = ap (λ l. name_hash k.name.now ∷ l) (key_hashes ks)
+
+pub adds_hashes : (ps : List (Name × ℕ)) (ks : List HashedName) (old new : List Named) (before after : List ℕ) → keys_shown ks ≡ firsts (names_of ps) → AddsSorted (groups ps) old new → before ≡ hashes_of old → after ≡ before ++ hashes_of (without_elements ks) → after ≡ hashes_of new
+adds_hashes ps ks old new before after names a is now =
+    now
+    ∙ ap (λ l. l ++ hashes_of (without_elements ks)) is
+    ∙ ap (λ l. hashes_of old ++ l) (key_hashes ks ∙ ap (map name_hash) names ∙ sym (table_hashes (λ n. values_of n ps) (firsts (names_of ps))) ∙ sym (sorted_hashes (groups ps) a.added a.sorted))
+    ∙ sym (ap hashes_of a.all ∙ map-append (λ (n : Named). name_hash n.name) old a.added)

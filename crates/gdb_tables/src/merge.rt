@@ -10,6 +10,7 @@ ghost use Rattle.gdb_scan.specs.Buckets.{in_buckets};
 ghost use Rattle.gdb_scan.specs.Groups.{groups};
 ghost use Rattle.gdb_scan.specs.Scan.{units_in_scan, placed_in_scan, HasSoundNames};
 ghost use Rattle.gdb_tables.specs.Scans.{unit_counts, unit_total, units_in_scans, placed_total, words_from, AreScansOf};
+ghost use Rattle.gdb_index.specs.Hashed.{hashes_of};
 ghost use Rattle.gdb_index.specs.Scan.{HaveSmallWords};
 ghost use Rattle.gdb_tables.specs.Merged.{AreSorted, IsMergeOf, IsMergeCause};
 
@@ -119,19 +120,22 @@ fn placed_units(
 }
 
 /// Returns all names in pool order: in ascending order of bucket, and within one bucket in the order of first publication.
+/// Returns their hashes beside them.
 fn pool_names<'a>(
     alloc: Global,
     scans: Vec<Option<PerObjectScan<'a>>>,
-) -> Result<Vec<NameWords<'a>>, AllocError>
+) -> Result<(Vec<NameWords<'a>>, Vec<u32>), AllocError>
     requires { unit_total scans.items ≤ 2 ^ 24 }
-    ensures sorted { IfOk result (λ list. AreSorted (in_buckets (groups (words_from 0 scans.entry.items))) (all_named list.items)) }
-    ensures fit { IfOk result (λ list. HaveSmallWords (all_named list.items)) }
+    ensures sorted { IfOk result (λ r. AreSorted (in_buckets (groups (words_from 0 scans.entry.items))) (all_named r.0.items)) }
+    ensures fit { IfOk result (λ r. HaveSmallWords (all_named r.0.items)) }
+    ensures hashed { IfOk result (λ r. r.1.items ≡ hashes_of (all_named r.0.items)) }
 {
     let mut list = Vec::new(alloc);
+    let mut hashes = Vec::new(alloc);
     for elements in distributed(alloc, scans)? {
-        add_bucket(alloc, &mut list, &elements)?;
+        add_bucket(alloc, &mut list, &mut hashes, &elements)?;
     }
-    Ok(list)
+    Ok((list, hashes))
 }
 
 /// The most units that the elements of a CU vector can number.
@@ -161,6 +165,6 @@ pub fn merge_gdb_index_scans<'a>(
     let units = placed_units(alloc, all, count as usize)?;
     let counts = list_unit_counts(alloc, all)?;
     let placed = count_placed(all);
-    let names = pool_names(alloc, scans)?;
-    Ok(GdbIndexScanResult::new(units, names, placed, counts))
+    let (names, hashes) = pool_names(alloc, scans)?;
+    Ok(GdbIndexScanResult::new(units, names, hashes, placed, counts))
 }

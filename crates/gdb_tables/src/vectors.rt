@@ -1,8 +1,9 @@
 //! The names of one bucket, in the order of first publication, each with its CU vector.
 
-ghost use Rattle.std.specs.Prelude.{◌≡◌, ◌^◌, ◌<◌, length, OnOk, IfOk};
+ghost use Rattle.std.specs.Prelude.{◌≡◌, ◌^◌, ◌<◌, ◌++◌, length, OnOk, IfOk};
 ghost use Rattle.std.specs.List.{All};
 ghost use Rattle.std.specs.List.Sorted.{IsPermutation, IsNonDecreasing};
+ghost use Rattle.gdb_index.specs.Hashed.{hashes_of};
 ghost use Rattle.gdb_index_format.specs.Named.{all_named};
 ghost use Rattle.gdb_index_format.specs.Published.{firsts};
 ghost use Rattle.gdb_scan.specs.Groups.{names_of, groups};
@@ -57,17 +58,21 @@ fn count_elements(
 }
 
 /// Returns the names of a set in order, each with an empty CU vector that has room for so many elements as are counted.
+/// Adds their hashes to a list.
 fn empty_vectors<'a>(
     alloc: Global,
+    hashes: &mut Vec<u32>,
     names: IndexSet<HashedName<'a>>,
     counts: &[usize],
 ) -> Result<Vec<NameWords<'a>>, AllocError>
-    ensures { IfOk result (λ list. all_named list.items ≡ without_elements names.entry.keys) }
+    ensures names { IfOk result (λ list. all_named list.items ≡ without_elements names.entry.keys) }
+    ensures hashes { OnOk result (hashes.new.items ≡ hashes.old.items ++ hashes_of (without_elements names.entry.keys)) }
 {
     let mut list = Vec::with_capacity(alloc, counts.len())?;
     for key in names {
         let count = counts.get(list.len()).copied().unwrap_or(0);
         let words = Vec::with_capacity(alloc, count)?;
+        hashes.push(key.hash)?;
         list.push(NameWords {
             name: key.name,
             words,
@@ -112,17 +117,21 @@ fn add_sorted<'a>(
     Ok(())
 }
 
-/// Adds the names of a bucket to a list, in the order of first publication, each with its CU vector in ascending order.
+/// Adds the names of a bucket to a list, in the order of first publication, each with its CU vector in ascending order,
+/// and their hashes to another.
 pub(crate) fn add_bucket<'a>(
     alloc: Global,
     list: &mut Vec<NameWords<'a>>,
+    hashes: &mut Vec<u32>,
     elements: &[NamedElement<'a>],
 ) -> Result<(), AllocError>
-    ensures { OnOk result (AddsSorted (groups (elements_shown elements.now)) (all_named list.old.items) (all_named list.new.items)) }
+    requires { hashes.old.items ≡ hashes_of (all_named list.old.items) }
+    ensures names { OnOk result (AddsSorted (groups (elements_shown elements.now)) (all_named list.old.items) (all_named list.new.items)) }
+    ensures hashes { OnOk result (hashes.new.items ≡ hashes_of (all_named list.new.items)) }
 {
     let (keys, indexes) = indexed(alloc, elements)?;
     let counts = count_elements(alloc, keys.len(), &indexes)?;
-    let mut names = empty_vectors(alloc, keys, &counts)?;
+    let mut names = empty_vectors(alloc, hashes, keys, &counts)?;
     fill(&mut names, &indexes)?;
     add_sorted(list, names)
 }

@@ -12,8 +12,8 @@ use Rattle.gdb_tables.proofs.Listing.{lists_of_scans, lists_of_objects}
 use Rattle.gdb_tables.proofs.Merging.{sound_merge}
 use Rattle.gdb_tables.proofs.merge.merge_gdb_index_scans.Goals as goal
 
-pub new-requires : goal.new-requires
-new-requires c =
+pub new-requires-clause-well_formed : goal.new-requires-clause-well_formed
+new-requires-clause-well_formed c =
     let ss = c.args.scans.items in
     let is : c.as_slice-all.result.now ≡ ss = c.as_slice-all.ensures.value in
     let few : unit_total ss ≤ 2 ^ 24 = omega (arith, c.count_units-count.ensures.total, ap unit_total is, c.if-count-gt-MAX_UNITS.false) in

@@ -27,12 +27,13 @@ loop-elements-preserved c =
     ap (flat_map (λ (ps : List (List ℕ × ℕ)). groups ps)) (map_push (λ l. elements_shown l.items) done e)
     ∙ flat_map-append (λ (ps : List (List ℕ × ℕ)). groups ps) (lists_shown done) (elements_shown e.items ∷ [])
     ∙ ap (λ l. before ++ l) (append-nil own) in
-    let adds : AddsSorted own old new = subst (λ es. AddsSorted (groups (elements_shown es)) old new) c.deref.ensures.value c.in_ok-add_bucket.ensures in
+    let adds : AddsSorted own old new = subst (λ es. AddsSorted (groups (elements_shown es)) old new) c.deref.ensures.value c.in_ok-add_bucket.ensures.names in
     let more : AreSorted (before ++ own) new × HaveSmallWords new = adds_more before own old new inv.sorted inv.fit adds in
     record {
       taken = inv.taken ∙ ap (λ l. done ++ l) taken ∙ sym (append_assoc done (e ∷ []) (into_iter_items c.next.new.self));
       sorted = subst (λ gs. AreSorted gs new) (sym joined) more.0;
       fit = more.1;
+      hashed = c.in_ok-add_bucket.ensures.hashes;
     }
 
 pub returns-clause-sorted : goal.returns-clause-sorted

@@ -3,6 +3,7 @@ use Rattle.std.specs.List.{flat_map}
 use Rattle.std.specs.Vec.Iter.{into_iter_items}
 use Rattle.gdb_index_format.specs.Named.{all_named}
 use Rattle.gdb_scan.specs.Groups.{groups}
+use Rattle.gdb_index.specs.Hashed.{hashes_of}
 use Rattle.gdb_index.specs.Scan.{HaveSmallWords}
 use Rattle.gdb_tables.specs.Merged.{AreSorted}
 use Rattle.gdb_tables.specs.steps.Distributed.{lists_shown}
@@ -13,4 +14,5 @@ invariant-loop-elements l = record {
   taken : into_iter_items l.initial.elements-iterator ≡ l.yielded ++ into_iter_items l.elements-iterator;
   sorted : AreSorted (flat_map (λ ps. groups ps) (lists_shown l.yielded)) (all_named l.list.items);
   fit : HaveSmallWords (all_named l.list.items);
+  hashed : l.hashes.items ≡ hashes_of (all_named l.list.items);
 }
