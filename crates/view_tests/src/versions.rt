@@ -91,104 +91,69 @@ fn versions_of_symbols(rt: HostRuntime) -> Result<(), Fail> {
     Ok(())
 }
 
-/// Returns why the names of the definitions and those of the needs of a shared object are refused.
-fn refusals(alloc: Global, bytes: &[u8]) -> (Option<VersionError>, Option<VersionError>) {
-    match File::<Class64>::parse_bytes(bytes, true) {
-        Ok(file) => (
+/// Returns why the names of the definitions and those of the needs of a shared object with these parts are refused.
+fn refusals(
+    alloc: Global,
+    definitions: &[u8],
+    definition_count: u32,
+    needs: &[u8],
+    strings: u32,
+) -> Result<(Option<VersionError>, Option<VersionError>), AllocError> {
+    let parts = Parts {
+        definitions,
+        definition_count,
+        needs,
+        versions: b"\0\0",
+        strings,
+        entries: &[],
+    };
+    let bytes = shared_object(alloc, ObjectClass::Elf64, parts)?;
+    match File::<Class64>::parse_bytes(&bytes, true) {
+        Ok(file) => Ok((
             file.get_version_names(alloc).err(),
             file.verneed_table(alloc).err(),
-        ),
-        Err(error) => (Some(VersionError::Elf(error)), None),
+        )),
+        Err(error) => Ok((Some(VersionError::Elf(error)), None)),
     }
+}
+
+/// Returns the definitions with another byte at an offset.
+fn definitions_with(alloc: Global, offset: usize, byte: u8) -> Result<Vec<u8>, AllocError> {
+    let mut changed = DEFINITIONS.to_vec(alloc)?;
+    if let Some(slot) = changed.get_mut(offset) {
+        *slot = byte;
+    }
+    Ok(changed)
 }
 
 #[test]
 fn malformed_versions(rt: HostRuntime) -> Result<(), Fail> {
     let alloc = rt.alloc();
     let malformed = Some(VersionError::Elf(ElfError::VersionTable));
-    let mut above = DEFINITIONS.to_vec(alloc)?;
-    if let Some(index) = above.get_mut(4) {
-        *index = 3;
-    }
-    let mut nameless = DEFINITIONS.to_vec(alloc)?;
-    if let Some(count) = nameless.get_mut(6) {
-        *count = 0;
-    }
-    for (parts, expected) in [
-        (well_formed(), (None, None)),
-        (
-            Parts {
-                definitions: DEFINITIONS.get(..63).unwrap_or(&[]),
-                ..well_formed()
-            },
-            (None, None),
-        ),
-        (
-            Parts {
-                definitions: DEFINITIONS.get(..55).unwrap_or(&[]),
-                ..well_formed()
-            },
-            (malformed, None),
-        ),
-        (
-            Parts {
-                definition_count: 1,
-                ..well_formed()
-            },
-            (None, None),
-        ),
-        (
-            Parts {
-                definitions: &above,
-                ..well_formed()
-            },
-            (Some(VersionError::BadIndex(3)), None),
-        ),
-        (
-            Parts {
-                definitions: &nameless,
-                ..well_formed()
-            },
-            (malformed, None),
-        ),
-        (
-            Parts {
-                needs: NEEDS.get(..47).unwrap_or(&[]),
-                ..well_formed()
-            },
-            (None, malformed),
-        ),
-        (
-            Parts {
-                needs: &[],
-                ..well_formed()
-            },
-            (None, malformed),
-        ),
-        (
-            Parts {
-                strings: 0,
-                ..well_formed()
-            },
-            (malformed, malformed),
-        ),
-        (
-            Parts {
-                strings: 9,
-                ..well_formed()
-            },
-            (malformed, malformed),
-        ),
-        (
-            Parts {
-                versions: b"\0",
-                ..well_formed()
-            },
-            (malformed, None),
-        ),
+    let above = Some(VersionError::BadIndex(3));
+    for (size, count, needs, strings, expected) in [
+        (64, 2, 48, 2, (None, None)),
+        (63, 2, 48, 2, (None, None)),
+        (55, 2, 48, 2, (malformed, None)),
+        (64, 1, 48, 2, (None, None)),
+        (64, 2, 47, 2, (None, malformed)),
+        (64, 2, 0, 2, (None, malformed)),
+        (64, 2, 48, 0, (malformed, malformed)),
+        (64, 2, 48, 9, (malformed, malformed)),
     ] {
-        let bytes = shared_object(alloc, ObjectClass::Elf64, parts)?;
-        assert_eq!(rt; refusals(alloc, &bytes), expected);
+        let definitions = DEFINITIONS.get(..size).unwrap_or(&[]);
+        let needs = NEEDS.get(..needs).unwrap_or(&[]);
+        assert_eq!(rt;
+            refusals(alloc, definitions, count, needs, strings)?,
+            expected
+        );
+    }
+    for (offset, byte, expected) in [(4, 3, above), (6, 0, malformed), (32, 3, above)] {
+        let definitions = definitions_with(alloc, offset, byte)?;
+        assert_eq!(rt;
+            refusals(alloc, &definitions, 2, NEEDS, 2)?,
+            (expected, None)
+        );
     }
     Ok(())
 }
