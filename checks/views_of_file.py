@@ -93,7 +93,8 @@ def check_symbol(line, symbol, base):
     if kind == TYPES["SECTION"]:
         return
     if not version:
-        if shown not in (name, f"{name}@@{base}") or needed:
+        # readelf leaves out the base version, and the version of the symbol that stands for a version
+        if shown not in (name, f"{name}@@{base}", f"{name}@@{name}") or needed:
             sys.exit(f"another name: {line}, and readelf {symbol}")
     elif needed:
         if shown != name or needed != version or text.lstrip("@") != version:

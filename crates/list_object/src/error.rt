@@ -8,7 +8,7 @@ use std::io;
 use thiserror::Error;
 
 /// The reason why an object is not listed.
-#[derive(Debug, Error)]
+#[derive(Debug, Drop, Error)]
 pub(crate) enum ListError {
     /// The object, or a view of it, is malformed.
     #[error("{0:?}")]
