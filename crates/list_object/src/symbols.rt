@@ -17,14 +17,14 @@ pub(crate) fn plain_name(bytes: &[u8]) -> RawSymbolName<'_> {
 
 /// Prints a line for a symbol, `symbol INDEX VALUE SIZE INFO OTHER SECTION [NAME] [NEEDED] [VERSION]`: the section is 0 where the
 /// symbol is defined in none, the name has its defined version, and an empty part stands for no version.
-fn print_symbol<C: ElfClass, R: Print>(
+fn print_symbol<'a, C: ElfClass, R: Print>(
     rt: &R,
     alloc: Global,
-    file: &File<'_, C>,
+    file: &File<'a, C>,
     index: SymbolIndex,
     symbol: &C::Sym,
-    names: &VersionNames<'_>,
-    needed: &VerneedTable<'_>,
+    names: &VersionNames<'a>,
+    needed: &VerneedTable<'a>,
 ) -> Result<(), ListError> {
     let name = file.get_symbol_name_and_version(symbol, index.0, names)?;
     let needed = plain_name(needed.version_name(index).unwrap_or(b""));
@@ -47,10 +47,10 @@ fn print_symbol<C: ElfClass, R: Print>(
 }
 
 /// Prints a line for each symbol of a file.
-pub(crate) fn list_symbols<C: ElfClass, R: Print>(
+pub(crate) fn list_symbols<'a, C: ElfClass, R: Print>(
     rt: &R,
     alloc: Global,
-    file: &File<'_, C>,
+    file: &File<'a, C>,
 ) -> Result<(), ListError> {
     let names = file.get_version_names(alloc)?;
     let needed = file.verneed_table(alloc)?;

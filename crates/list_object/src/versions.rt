@@ -4,6 +4,7 @@ use crate::error::ListError;
 use crate::symbols::plain_name;
 use elf_format::SectionIndex;
 use elf_tables::{Verdef, Verneed};
+use elf_versions::string_at;
 use elf_view::{File, RawSymbolName, VerdauxIter, VernauxIter};
 use elf_words::{DynFields, ElfClass};
 
@@ -15,14 +16,9 @@ fn strings_of<'a, C: ElfClass>(file: &File<'a, C>, section: SectionIndex) -> &'a
     }
 }
 
-/// Returns the string at an offset, up to a zero byte or the end.
-fn string_at(strings: &[u8], offset: u32) -> RawSymbolName<'_> {
-    let after = strings.get(offset as usize..).unwrap_or(&[]);
-    let mut length = 0;
-    while length < after.len() && after[length] != 0 {
-        length += 1;
-    }
-    plain_name(&after[..length])
+/// Returns the string at an offset as a name, the empty name where it is unreadable.
+fn name_at(strings: &[u8], offset: u32) -> RawSymbolName<'_> {
+    plain_name(string_at(strings, offset as usize).unwrap_or(b""))
 }
 
 /// Prints a version definition, `definition INDEX FLAGS`, and each of its names, `version [NAME]`.
@@ -38,7 +34,7 @@ fn print_definition<R: Print>(
         definition.vd_flags()
     )?;
     for name in names {
-        let name = string_at(strings, name?.vda_name());
+        let name = name_at(strings, name?.vda_name());
         println!(rt; "version [{name}]")?;
     }
     Ok(())
@@ -51,11 +47,11 @@ fn print_need<R: Print>(
     need: Verneed,
     versions: VernauxIter<'_>,
 ) -> Result<(), ListError> {
-    let name = string_at(strings, need.vn_file());
+    let name = name_at(strings, need.vn_file());
     println!(rt; "file [{name}]")?;
     for version in versions {
         let version = version?;
-        let name = string_at(strings, version.vna_name());
+        let name = name_at(strings, version.vna_name());
         println!(rt;
             "needed {} {} [{name}]",
             version.vna_other(),
