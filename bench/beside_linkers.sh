@@ -24,7 +24,7 @@ link() { local linker=$1; shift; instructions "$linker" -e 0 --unresolved-symbol
 
 derived=$(instructions "$derive" tables x86_64 "$folder/layout" "$folder"/*.o)
 echo "derive: $derived instructions"
-callgrind_annotate "$work/counts" 2>/dev/null | sed -n '/^Ir/,$p' | sed '1,2d; /^$/d; s/ \[[^]]*\]$//' | head -n 10
+callgrind_annotate "$work/counts" 2>/dev/null | awk '/^ *[0-9,]+ \(/ && !/PROGRAM TOTALS/ && n++ < 10 { sub(/ \[[^]]*\]$/, ""); print }'
 for linker in ld.lld ld.gold; do
   command -v "$linker" >/dev/null || { echo "no $linker"; continue; }
   threads=--no-threads

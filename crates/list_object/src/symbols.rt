@@ -28,11 +28,10 @@ fn print_symbol<'a, C: ElfClass, R: Print>(
 ) -> Result<(), ListError> {
     let name = file.get_symbol_name_and_version(symbol, index.0, names)?;
     let needed = plain_name(needed.version_name(index).unwrap_or(b""));
-    let text = file.symbol_version_debug(alloc, index)?;
-    let text = match &text {
-        Some(bytes) => plain_name(bytes),
-        None => plain_name(b""),
-    };
+    let text = file
+        .symbol_version_debug(alloc, index)?
+        .unwrap_or(Vec::new(alloc));
+    let text = plain_name(&text);
     let section = match file.symbol_section(symbol, index)? {
         Some(section) => section.0,
         None => 0,
