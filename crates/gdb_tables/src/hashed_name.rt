@@ -1,4 +1,4 @@
-//! A name with its hash, as the key of a map that computes no other hash of the name's bytes.
+//! A name with its hash, as the key of a map over the bytes of names.
 
 ghost use Rattle.std.specs.Prelude.{◌≡◌};
 ghost use Rattle.gdb_index_format.specs.Hash.{name_hash};
@@ -38,15 +38,15 @@ impl Eq for HashedName<'_> {
 
 impl Hash for HashedName<'_> {
     ghost use Rattle.std.specs.Hash as fed;
-    ghost use Rattle.std.proofs.Common.{ap, sym, ◌∙◌};
+    ghost use Rattle.std.proofs.Common.{ap};
     ghost use Rattle.std.proofs.lemmas.Slice.Eq.{bytes_eq-Decides};
-    ghost use Rattle.gdb_index_format.specs.Hash.{name_hash as hash_of};
 
-    ghost hash_input = { λ x. fed.u32 x.hash };
+    ghost hash_input = { λ x. fed.slice fed.u8 x.name.now };
 
-    ghost respects_eq = { λ x y same. ap fed.u32 (x.hashed ∙ ap hash_of ((bytes_eq-Decides x.name.now y.name.now).0 same) ∙ sym y.hashed) };
+    ghost respects_eq = { λ x y same. ap (fed.slice fed.u8) ((bytes_eq-Decides x.name.now y.name.now).0 same) };
 
+    // Not the kept hash: names that collide are easily made, and each would cost a pass over those before it.
     fn hash<H: Hasher>(&self, state: &mut H) {
-        state.write_u32(self.hash);
+        self.name.hash(state);
     }
 }
