@@ -5,12 +5,14 @@
 #![tactic(auto)]
 
 mod entries;
+mod laws;
 mod set_error;
 mod sets;
 mod unit_search;
 mod units;
 
 pub use gdb_index_format::{CuBoundary, DwarfFormat, UnitFault};
+pub use laws::unit_list_causes_are_one;
 pub use set_error::SetError;
 pub use sets::{PubnamesSet, parse_pubnames_sets};
 pub use unit_search::{cu_index_for_offset, unit_with_offset};

@@ -7,6 +7,7 @@
 mod crel;
 mod encode;
 mod fault;
+mod laws;
 mod list;
 mod record;
 mod rel;
@@ -21,6 +22,7 @@ pub use crel::CrelIterator;
 pub use elf_format::{Crel, CrelError};
 pub use encode::encode_crel;
 pub use fault::CrelFault;
+pub use laws::list_causes_are_one;
 pub use list::RelocationList;
 pub use rel::Rel;
 pub use rel_iter::RelIter;

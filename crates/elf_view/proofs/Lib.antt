@@ -6,3 +6,4 @@ pub mod NameLemmas
 pub mod RelocationLemmas
 pub mod SectionsFit
 pub mod SonameLemmas
+pub mod CauseLemmas

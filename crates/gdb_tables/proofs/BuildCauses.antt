@@ -37,7 +37,7 @@ address_is fault NoMemory p some = absurd (some refl)
 same_elf : (p q : ℕ) (k l : ElfError) → ◌≡◌ {A = Option (ℕ × ElfError)} (Some (p, k)) (Some (q, l)) → BadElf p k ≡ BadElf q l
 same_elf p q k l same = ap (λ (found : Option (ℕ × ElfError)). BadElf (unwrap_or found (p, k)).0 (unwrap_or found (p, k)).1) same
 
-one_address : (fault : Option (ℕ × ElfError)) (e f : GdbError) → IsAddressCause fault e → IsAddressCause fault f → e ≢ NoMemory → f ≢ NoMemory → e ≡ f
+pub one_address : (fault : Option (ℕ × ElfError)) (e f : GdbError) → IsAddressCause fault e → IsAddressCause fault f → e ≢ NoMemory → f ≢ NoMemory → e ≡ f
 unfolding IsElf
 one_address fault e f p q a b =
     let left = address_is fault e p a in

@@ -18,6 +18,7 @@ use Rattle.gdb_tables.specs.Files.{ArePlain, FirstBadObject, IsFilesCause, Scans
 use Rattle.gdb_scan.specs.Scan.{ObjectScan}
 use Rattle.gdb_tables.specs.Sized as sized_spec
 use Rattle.gdb_tables.specs.Sized.{SizesIndex, IsIndexable, IsSizeCause, in_object, too_many, too_large}
+use Rattle.gdb_tables.specs.Merged.{IsMergeCause}
 use Rattle.gdb_tables.specs.Laws.{HasOneFilesCause, HasOneSizeCause, IndexableHasNoCause}
 use Rattle.gdb_scan.proofs.Causes.{same_bytes, excluded}
 use Rattle.gdb_scan.proofs.OneCause.{memory_is, told, one_scan_cause}
@@ -132,3 +133,12 @@ told_size version files ps f e found cause some = told (IsSizeCause version file
 -- an index with a size that its offsets can count is one
 pub indexable : (version : ℕ) (files : List (List ℕ)) (ps : List Placement) (size : ℕ) (scan : Option Scan) → SizesIndex version files ps size scan → size < 2 ^ 32 → IsIndexable version files ps
 indexable version files ps size scan sized fits = record { objects = sized.objects; held = sized.held; plain = sized.plain; few = sized.few; size = size; size_is = sized.size_is; fits = fits }
+
+-- ---- merging
+
+pub one_merge_cause : (ss : List (Option ObjectScan)) (e f : GdbError) → IsMergeCause ss e → IsMergeCause ss f → e ≢ NoMemory → f ≢ NoMemory → e ≡ f
+one_merge_cause ss (TooManyUnits n) (TooManyUnits m) p q a b = ap TooManyUnits (p.0 ∙ sym q.0)
+one_merge_cause ss (TooManyUnits n) NoMemory p q a b = absurd (b refl)
+one_merge_cause ss NoMemory f p q a b = absurd (a refl)
+one_merge_cause ss (TooManyUnits n) f p q a b = absurd q
+one_merge_cause ss e f p q a b = absurd p

@@ -1,5 +1,6 @@
 -- Each relation has one value, and an index is refused for one cause.
 use Rattle.std.specs.Prelude.{◌≡◌, ◌≢◌, ℕ, List, Option}
+use Rattle.elf_format.specs.declared.error.ElfError.{ElfError}
 use Rattle.elf_view.specs.Parsed.{Parsed}
 use Rattle.gdb_index.specs.Scan.{Scan}
 use Rattle.gdb_index_format.specs.declared.name_words.NameWords.{NameWords}
@@ -11,9 +12,10 @@ use Rattle.gdb_index_format.specs.Published.{Object, published, pool_names}
 use Rattle.gdb_scan.specs.declared.error.GdbError.{GdbError}
 use Rattle.gdb_scan.specs.declared.error.GdbError.TheVariants.{NoMemory}
 use Rattle.gdb_scan.specs.Scan.{ObjectScan}
+use Rattle.gdb_tables.specs.Addresses.{IsAddressCause}
 use Rattle.gdb_tables.specs.Files.{file_bytes, ScansObjects, IsFilesCause}
 use Rattle.gdb_tables.specs.Index.{IsIndexOf, AreRelocated, IsBuildCause}
-use Rattle.gdb_tables.specs.Merged.{IsMergeOf}
+use Rattle.gdb_tables.specs.Merged.{IsMergeOf, IsMergeCause}
 use Rattle.gdb_tables.specs.Sized.{SizesIndex, IsIndexable, IsSizeCause}
 
 -- files and placements have one list of scans
@@ -55,3 +57,11 @@ HasOneBuildCause = (version : ℕ) (parsed : List Parsed) (ps : List Placement) 
 -- where it has such a size, and the relocations are read, there is no cause but `NoMemory`
 abbrev pub RelocatedHasNoCause : Type 0
 RelocatedHasNoCause = (version : ℕ) (parsed : List Parsed) (ps : List Placement) (e : GdbError) → IsIndexable version (file_bytes parsed) ps → AreRelocated parsed → IsBuildCause version parsed ps e → e ≡ NoMemory
+
+-- scans are not merged for one cause
+abbrev pub HasOneMergeCause : Type 0
+HasOneMergeCause = (ss : List (Option ObjectScan)) (e f : GdbError) → IsMergeCause ss e → IsMergeCause ss f → e ≢ NoMemory → f ≢ NoMemory → e ≡ f
+
+-- address entries are not made for one cause
+abbrev pub HasOneAddressCause : Type 0
+HasOneAddressCause = (fault : Option (ℕ × ElfError)) (e f : GdbError) → IsAddressCause fault e → IsAddressCause fault f → e ≢ NoMemory → f ≢ NoMemory → e ≡ f

@@ -1,7 +1,7 @@
 //! Laws over the definitions: each relation has one value, and what is refused is refused for one cause. Each law is the
 //! contract of a function that does nothing.
 
-ghost use Rattle.gdb_tables.specs.Laws.{HasOneScanEach, HasOneMerge, HasOneSize, HasOneIndex, IndexHasFewSteps, HasOneFilesCause, HasOneSizeCause, IndexableHasNoCause, HasOneBuildCause, RelocatedHasNoCause};
+ghost use Rattle.gdb_tables.specs.Laws.{HasOneScanEach, HasOneMerge, HasOneSize, HasOneIndex, IndexHasFewSteps, HasOneFilesCause, HasOneSizeCause, IndexableHasNoCause, HasOneMergeCause, HasOneAddressCause, HasOneBuildCause, RelocatedHasNoCause};
 
 /// Files and placements have one list of scans.
 pub fn object_scans_are_one()
@@ -42,6 +42,16 @@ pub fn size_causes_are_one()
 /// An index with a size that offsets of four bytes can hold is refused only by `NoMemory`.
 pub fn indexable_has_no_cause()
     ensures { IndexableHasNoCause }
+{}
+
+/// Scans are not merged for one cause, `NoMemory` aside.
+pub fn merging_causes_are_one()
+    ensures { HasOneMergeCause }
+{}
+
+/// Address entries are not made for one cause, `NoMemory` aside.
+pub fn address_causes_are_one()
+    ensures { HasOneAddressCause }
 {}
 
 /// An index is not built for one cause, `NoMemory` aside.

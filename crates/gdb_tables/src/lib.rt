@@ -32,9 +32,9 @@ pub use gdb_scan::{
 };
 pub use index::{IndexTables, build_index};
 pub use laws::{
-    build_causes_are_one, built_indexes_are_one, files_causes_are_one, index_has_few_steps,
-    indexable_has_no_cause, merges_are_one, object_scans_are_one, relocated_has_no_cause,
-    size_causes_are_one, sized_indexes_are_one,
+    address_causes_are_one, build_causes_are_one, built_indexes_are_one, files_causes_are_one,
+    index_has_few_steps, indexable_has_no_cause, merges_are_one, merging_causes_are_one,
+    object_scans_are_one, relocated_has_no_cause, size_causes_are_one, sized_indexes_are_one,
 };
 pub use merge::merge_gdb_index_scans;
 pub use misplaced::{first_misplaced, placed_are_not_misplaced};
