@@ -14,7 +14,8 @@ use Rattle.program_text.specs.Layout.{LayoutEntries, layout_of}
 use Rattle.program_text.specs.declared.demo.Summary.{Summary}
 use Rattle.program_text.specs.Demo.{shown_of}
 use Rattle.program_text.specs.Query.{Query}
-use Rattle.program_text.specs.Report.{report_of}
+use Rattle.program_text.specs.Lines.{text_of}
+use Rattle.program_text.specs.Report.{start_lines, whole_text}
 use Rattle.derive_program.specs.declared.ran.Ran.{Ran}
 use Rattle.derive_program.specs.declared.ran.Ran.TheVariants.{Done, Shown, Refused, WriteFault, NoMemory}
 use Rattle.derive_program.specs.steps.Answer.{program_input_of, IsInputOfFiles, IsReportOfFiles, IsAnswerFor, IsRefusalOf, IsWritingOf, IsReplyWriting, IsTextWritten, IsReplyOf, IsQueryAnswer, IsSummaryWriting, IsTextOfDemo, IsDemoAnswer}
@@ -49,58 +50,49 @@ tables_named input units names index index' sframe sframe' outcome outcome' i s 
     let R : SframeOutcome → Type 0 = λ x. AreTablesOf input units names index' sframe' x in
     subst R (sym o) (subst Q (sym s) (subst P (sym i) tables))
 
-report_named : (units : List CuBoundary) (names : List NameWords) (index index' sframe sframe' : List ℕ) (outcome outcome' : SframeOutcome) → index' ≡ index → sframe' ≡ sframe → outcome' ≡ outcome → report_of units names outcome index sframe ≡ report_of units names outcome' index' sframe'
-report_named units names index index' sframe sframe' outcome outcome' i s o =
-    ap (λ x. report_of units names outcome x sframe) (sym i)
-    ∙ ap (λ x. report_of units names outcome index' x) (sym s)
-    ∙ ap (λ x. report_of units names x index' sframe') (sym o)
-
 -- files with their layout are the input of their parts
 files_input : (machine : Architecture) (version : IndexVersion) (files : FilesRead) (layout : LayoutEntries) → layout_of files.layout.items ≡ Ok layout → IsInputOfFiles machine version files (program_input_of machine version files layout)
 files_input machine version files layout laid = record { layout = layout; laid = laid; is = refl }
 
--- the report of tables
-report_with : (machine : Architecture) (version : IndexVersion) (files : FilesRead) (layout : LayoutEntries) (units : List CuBoundary) (names : List NameWords) (index sframe : List ℕ) (outcome : SframeOutcome) → layout_of files.layout.items ≡ Ok layout → AreTablesOf (program_input_of machine version files layout) units names index sframe outcome → ((error : DeriveError) → HasCauseIn (program_input_of machine version files layout) error → ⊥) → HasReport (IsInputOfFiles machine version files) index sframe outcome (report_of units names outcome index sframe)
-report_with machine version files layout units names index sframe outcome laid are none = record {
+-- the report of tables, by its start
+pub started_report : (machine : Architecture) (version : IndexVersion) (files : FilesRead) (layout : LayoutEntries) (units : List CuBoundary) (names : List NameWords) (index index' sframe sframe' : List ℕ) (outcome outcome' : SframeOutcome) (start : List ℕ) → layout_of files.layout.items ≡ Ok layout → AreTablesOf (program_input_of machine version files layout) units names index sframe outcome → ((error : DeriveError) → HasCauseIn (program_input_of machine version files layout) error → ⊥) → start ≡ text_of (start_lines units names outcome) → index' ≡ index → sframe' ≡ sframe → outcome' ≡ outcome → HasReport (IsInputOfFiles machine version files) index' sframe' outcome' (whole_text start index' sframe')
+started_report machine version files layout units names index index' sframe sframe' outcome outcome' start laid are none t i s o = record {
   input = program_input_of machine version files layout;
   read = files_input machine version files layout laid;
   units = units;
   names = names;
-  tables = are;
+  tables = tables_named (program_input_of machine version files layout) units names index index' sframe sframe' outcome outcome' i s o are;
   no_cause = none;
-  report = refl;
+  report = ap (λ x. whole_text x index' sframe') t ∙ ap (λ x. whole_text (text_of (start_lines units names x)) index' sframe') (sym o);
 }
+
+-- a report by the names of its tables
+report_named : (Of : ProgramInput → Type 0) (index index' sframe sframe' : List ℕ) (outcome outcome' : SframeOutcome) (text : List ℕ) → index' ≡ index → sframe' ≡ sframe → outcome' ≡ outcome → HasReport Of index sframe outcome text → HasReport Of index' sframe' outcome' text
+report_named Of index index' sframe sframe' outcome outcome' text i s o reported =
+    let P : List ℕ → Type 0 = λ x. HasReport Of x sframe outcome text in
+    let Q : List ℕ → Type 0 = λ x. HasReport Of index' x outcome text in
+    let R : SframeOutcome → Type 0 = λ x. HasReport Of index' sframe' x text in
+    subst R (sym o) (subst Q (sym s) (subst P (sym i) reported))
 
 -- there was no call, or one with the report
-calls_with : (machine : Architecture) (version : IndexVersion) (files : FilesRead) (units : List CuBoundary) (names : List NameWords) (index sframe : List ℕ) (outcome : SframeOutcome) (writes : Writes) → HasReport (IsInputOfFiles machine version files) index sframe outcome (report_of units names outcome index sframe) → (writes.puts_now ≡ writes.puts) ⊎ IsPutOnce writes (report_of units names outcome index sframe) → (writes.puts_now ≡ writes.puts) ⊎ IsAttempted (IsReportOfFiles machine version files) writes
-calls_with machine version files units names index sframe outcome writes reported (inl none) = inl none
-calls_with machine version files units names index sframe outcome writes reported (inr once) =
-    inr (record { text = report_of units names outcome index sframe; told = (index, sframe, outcome, reported); once = once })
+calls_with : (machine : Architecture) (version : IndexVersion) (files : FilesRead) (index sframe : List ℕ) (outcome : SframeOutcome) (text : List ℕ) (writes : Writes) → HasReport (IsInputOfFiles machine version files) index sframe outcome text → (writes.puts_now ≡ writes.puts) ⊎ IsPutOnce writes text → (writes.puts_now ≡ writes.puts) ⊎ IsAttempted (IsReportOfFiles machine version files) writes
+calls_with machine version files index sframe outcome text writes reported (inl none) = inl none
+calls_with machine version files index sframe outcome text writes reported (inr once) =
+    inr (record { text = text; told = (index, sframe, outcome, reported); once = once })
 
-pub after_writing : (machine : Architecture) (version : IndexVersion) (files : FilesRead) (layout : LayoutEntries) (units : List CuBoundary) (names : List NameWords) (index sframe : List ℕ) (outcome : SframeOutcome) (writes : Writes) (ran : Ran) → layout_of files.layout.items ≡ Ok layout → AreTablesOf (program_input_of machine version files layout) units names index sframe outcome → ((error : DeriveError) → HasCauseIn (program_input_of machine version files layout) error → ⊥) → IsWritingOf units names index sframe outcome writes ran → IsAnswerFor machine version files writes ran
-after_writing machine version files layout units names index sframe outcome writes (Done tables) laid are none (i, s, o, put) = record {
-  text = report_of units names outcome index sframe;
-  reported = record {
-    input = program_input_of machine version files layout;
-    read = files_input machine version files layout laid;
-    units = units;
-    names = names;
-    tables = tables_named (program_input_of machine version files layout) units names _ _ _ _ _ _ i s o are;
-    no_cause = none;
-    report = report_named units names _ _ _ _ _ _ i s o;
-  };
+-- from the writing of the report to the answer
+pub after_writing : (machine : Architecture) (version : IndexVersion) (files : FilesRead) (index sframe : List ℕ) (outcome : SframeOutcome) (text : List ℕ) (writes : Writes) (ran : Ran) → HasReport (IsInputOfFiles machine version files) index sframe outcome text → IsWritingOf index sframe outcome text writes ran → IsAnswerFor machine version files writes ran
+after_writing machine version files index sframe outcome text writes (Done tables) reported (i, s, o, put) = record {
+  text = text;
+  reported = report_named (IsInputOfFiles machine version files) _ _ _ _ _ _ text i s o reported;
   put = put;
 }
-after_writing machine version files layout units names index sframe outcome writes WriteFault laid are none put = record {
-  text = report_of units names outcome index sframe;
-  told = (index, sframe, outcome, report_with machine version files layout units names index sframe outcome laid are none);
-  put = put;
-}
-after_writing machine version files layout units names index sframe outcome writes NoMemory laid are none (same, calls) = record {
+after_writing machine version files index sframe outcome text writes WriteFault reported put = record { text = text; told = (index, sframe, outcome, reported); put = put }
+after_writing machine version files index sframe outcome text writes NoMemory reported (same, calls) = record {
   written = same;
-  calls = calls_with machine version files units names index sframe outcome writes (report_with machine version files layout units names index sframe outcome laid are none) calls;
+  calls = calls_with machine version files index sframe outcome text writes reported calls;
 }
-after_writing machine version files layout units names index sframe outcome writes ran laid are none never = absurd never
+after_writing machine version files index sframe outcome text writes ran reported never = absurd never
 
 pub after_refusal : (machine : Architecture) (version : IndexVersion) (files : FilesRead) (layout : LayoutEntries) (error : DeriveError) (writes : Writes) (ran : Ran) → layout_of files.layout.items ≡ Ok layout → (error ≡ errors.NoMemory) ⊎ HasCauseIn (program_input_of machine version files layout) error → (HasTables (program_input_of machine version files layout) → error ≡ errors.NoMemory) → ((other : DeriveError) → HasCauseIn (program_input_of machine version files layout) other → (error ≡ other) ⊎ (error ≡ errors.NoMemory)) → IsSilent writes → IsRefusalOf error ran → IsAnswerFor machine version files writes ran
 after_refusal machine version files layout error writes (Refused answered) laid cause complete exact silent (is, not_memory) = (

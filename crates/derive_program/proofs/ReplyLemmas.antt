@@ -1,5 +1,5 @@
 -- A query has one reply for the bytes of its file, and the line of a function that was found is its text.
-use Rattle.std.proofs.Common.{◌≡◌, ℕ, List, [], ◌∷◌, length, filter, Option, Some, None, Ok, refl, sym, ap, ◌∙◌, subst, inl}
+use Rattle.std.proofs.Common.{◌≡◌, ℕ, List, [], ◌∷◌, ◌++◌, length, filter, map, Option, Some, None, Ok, refl, sym, ap, ◌∙◌, subst, inl}
 use Rattle.std.specs.Option.{option_or}
 use Rattle.gdb_index_format.specs.declared.version.IndexVersion.TheVariants.{V9}
 use Rattle.gdb_index_format.specs.Version.{version_number}
@@ -9,6 +9,8 @@ use Rattle.index_merge.specs.Laws.{MergedSizesAreOne, MergeCausesAreOne, Mergeab
 use Rattle.index_merge.specs.Merged.{IsMergedIndex, IsMergeable}
 use Rattle.program_text.specs.Merge.{Merge, merged_text}
 use Rattle.derive_program.specs.declared.ran.Ran.TheVariants.{RefusedMerge, NoMemory}
+use Rattle.gdb_index_format.specs.declared.placement.AddressEntry.{AddressEntry}
+use Rattle.gdb_index_format.specs.declared.unit.CuBoundary.{CuBoundary}
 use Rattle.gdb_index_format.specs.Named.{Named}
 use Rattle.gdb_index_format.specs.Units.{index_units}
 use Rattle.index_browser.specs.declared.error.BrowseError.{BrowseError}
@@ -17,7 +19,9 @@ use Rattle.index_browser.specs.Checked.{IsChecked}
 use Rattle.index_browser.specs.Fault.{browse_fault}
 use Rattle.index_browser.specs.Laws.{CheckedHasNoFault, NameListsAreOne}
 use Rattle.index_browser.specs.NameList.{IsNameListWith, has_prefix}
-use Rattle.program_text.specs.Browse.{Browse, listed_text}
+use Rattle.program_text.specs.Browse.{Browse, listing_start_lines, listed_text}
+use Rattle.program_text.specs.Lines.{text_of}
+use Rattle.program_text.specs.Report.{named_line}
 use Rattle.sframe_find.specs.Frames.{Frames, frames_of}
 use Rattle.sframe_find.specs.Scan.{IsScan}
 use Rattle.sframe_find.specs.Ordered.{IsOrdered}
@@ -33,6 +37,20 @@ use Rattle.derive_program.specs.steps.Answer.{IsListed, IsReplyWriting, IsQueryA
 use Rattle.derive_program.specs.Writing.{Writes, IsSilent}
 use Rattle.derive_program.proofs.AnswerLemmas.{after_reply}
 use Rattle.derive_program.proofs.ClauseLemmas.{same_ok, same_query}
+
+-- the text of what an index lists, by its start
+pub listed_with : (bytes prefix : List ℕ) (units : List CuBoundary) (addresses : List AddressEntry) (names : List Named) (start text : List ℕ) (count : ℕ) → units ≡ index_units bytes → addresses ≡ index_addresses bytes → IsNameListWith bytes prefix names → length names ≡ count → start ≡ text_of (listing_start_lines units addresses count) → text ≡ start ++ text_of (map named_line names) → IsListed bytes prefix text count
+listed_with bytes prefix units addresses names start text count u a list counted started grown = record {
+  names = names;
+  list = list;
+  text_is =
+      grown
+      ∙ ap (λ t. t ++ text_of (map named_line names)) started
+      ∙ ap (λ x. text_of (listing_start_lines x addresses count) ++ text_of (map named_line names)) u
+      ∙ ap (λ x. text_of (listing_start_lines (index_units bytes) x count) ++ text_of (map named_line names)) a
+      ∙ ap (λ n. text_of (listing_start_lines (index_units bytes) (index_addresses bytes) n) ++ text_of (map named_line names)) (sym counted);
+  count_is = counted;
+}
 
 -- the reply for what a scan ends with
 scan_reply : Option ℕ → Reply

@@ -1,21 +1,22 @@
 //! Listing what an index holds, and writing it.
-ghost use Rattle.std.specs.Prelude.{[], ◌∷◌, ◌≡◌, ◌≤◌, IfOk, IfSome};
-ghost use Rattle.gdb_index_format.specs.Named.{all_named};
+ghost use Rattle.std.specs.Prelude.{[], ◌∷◌, ◌++◌, ◌≡◌, ◌≤◌, map, IfOk, OnOk, IfSome};
 ghost use Rattle.gdb_index_format.specs.Units.{index_units};
 ghost use Rattle.index_browser.specs.Areas.{index_addresses};
 ghost use Rattle.index_browser.specs.NameList.{all_listed};
 ghost use Rattle.program_text.specs.Browse.{browse_of, prefix_in};
+ghost use Rattle.program_text.specs.Lines.{text_of};
 ghost use Rattle.program_text.specs.Query.{for_browse};
+ghost use Rattle.program_text.specs.Report.{named_line};
 ghost use Rattle.derive_program.specs.Calls.{write_faults_after};
 ghost use Rattle.derive_program.specs.Reply.{names_listed};
 ghost use Rattle.derive_program.specs.steps.Answer.{IsListed, IsQueryAnswer, IsReplyWriting};
 
 use crate::Ran;
-use crate::finding::elements_of;
-use gdb_index_format::{AddressEntry, CuBoundary, NameWords};
+use crate::finding::read_elements;
+use gdb_index_format::{AddressEntry, CuBoundary};
 use index_browser::{CheckedIndex, NameEntry, check_index};
 use program_io::{Sink, SinkFault};
-use program_text::{BrowseCommand, listing_text};
+use program_text::{BrowseCommand, listing_start, push_name, room_of_name};
 use std::alloc::{AllocError, Global};
 
 /// What an index lists, as a text.
@@ -49,19 +50,31 @@ fn addresses_of(alloc: Global, index: &CheckedIndex<'_>) -> Result<Vec<AddressEn
     Ok(addresses)
 }
 
-/// Returns the names of entries, each with the elements of its CU vector.
-fn names_of<'a>(alloc: Global, entries: &[NameEntry<'a>]) -> Result<Vec<NameWords<'a>>, AllocError>
-    ensures { IfOk result (λ names. all_named names.items ≡ all_listed entries.now) }
-{
-    let mut names = Vec::with_capacity(alloc, entries.len())?;
+/// Returns how many bytes the lines of entries take at most.
+fn room_of_entries(entries: &[NameEntry<'_>]) -> usize {
+    let mut room = 0usize;
     for entry in entries {
-        let words = elements_of(alloc, &entry.vector)?;
-        names.push(NameWords {
-            name: entry.name,
-            words,
-        })?;
+        room = room.saturating_add(room_of_name(entry.name.len(), entry.vector.len()));
     }
-    Ok(names)
+    room
+}
+
+/// Appends the line of each entry. The elements of each CU vector are read into one buffer.
+fn push_entries(
+    alloc: Global,
+    out: &mut Vec<u8>,
+    entries: &[NameEntry<'_>],
+) -> Result<(), AllocError>
+    ensures { OnOk result (out.new.items ≡ out.old.items ++ text_of (map named_line (all_listed entries.now))) }
+{
+    let mut elements = Vec::new(alloc);
+    let mut rest = entries;
+    while let [entry, after @ ..] = rest {
+        read_elements(&mut elements, &entry.vector)?;
+        push_name(out, entry.name, &elements)?;
+        rest = after;
+    }
+    Ok(())
 }
 
 /// Returns what an index lists, with its names that begin with a prefix.
@@ -71,12 +84,10 @@ fn list_index(alloc: Global, index: &CheckedIndex<'_>, prefix: &[u8]) -> Result<
     let units = units_of(alloc, index)?;
     let addresses = addresses_of(alloc, index)?;
     let entries = index.names_with_prefix(alloc, prefix)?;
-    let names = names_of(alloc, &entries)?;
-    let text = listing_text(alloc, &units, &addresses, &names)?;
-    Ok(Listing {
-        text,
-        count: names.len(),
-    })
+    let count = entries.len();
+    let mut text = listing_start(alloc, &units, &addresses, count, room_of_entries(&entries))?;
+    push_entries(alloc, &mut text, &entries)?;
+    Ok(Listing { text, count })
 }
 
 /// Returns the bytes of the digits of a prefix, or None where memory ran out.

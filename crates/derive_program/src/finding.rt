@@ -1,5 +1,5 @@
 //! Looking up a name in an index, and writing its CU vector.
-ghost use Rattle.std.specs.Prelude.{[], ◌∷◌, ◌≡◌, ◌≤◌, ◌<◌, IfOk, MatchOption};
+ghost use Rattle.std.specs.Prelude.{[], ◌∷◌, ◌≡◌, ◌≤◌, ◌<◌, IfOk, OnOk, MatchOption};
 ghost use Rattle.gdb_index_format.specs.Probe.{probe};
 ghost use Rattle.program_text.specs.Find.{find_of, found_of};
 ghost use Rattle.program_text.specs.Query.{for_find};
@@ -30,14 +30,26 @@ pub(crate) fn look_up<'a, L: Ledger>(
     lookup(index, name, &mut steps)
 }
 
-/// Returns the elements of a CU vector.
-pub(crate) fn elements_of(alloc: Global, vector: &CuVector<'_>) -> Result<Vec<u32>, AllocError>
-    ensures { IfOk result (λ elements. elements.items ≡ vector.now) }
+/// Reads the elements of a CU vector into a buffer, in place of what it holds.
+pub(crate) fn read_elements(
+    elements: &mut Vec<u32>,
+    vector: &CuVector<'_>,
+) -> Result<(), AllocError>
+    ensures { OnOk result (elements.new.items ≡ vector.now) }
 {
-    let mut elements = Vec::with_capacity(alloc, vector.len())?;
+    elements.clear();
     'elements: while let Some(element) = vector.get(elements.len()) {
         elements.push(element)?;
     }
+    Ok(())
+}
+
+/// Returns the elements of a CU vector.
+fn elements_of(alloc: Global, vector: &CuVector<'_>) -> Result<Vec<u32>, AllocError>
+    ensures { IfOk result (λ elements. elements.items ≡ vector.now) }
+{
+    let mut elements = Vec::with_capacity(alloc, vector.len())?;
+    read_elements(&mut elements, vector)?;
     Ok(elements)
 }
 

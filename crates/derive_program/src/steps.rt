@@ -1,5 +1,5 @@
 //! The steps of the program, one after another.
-ghost use Rattle.std.specs.Prelude.{◌≡◌, ◌∷◌, [], ◌≢◌, ◌≤◌, ◌↔◌, ◌⊎◌, ℕ, List, length, vec_len, false, Ok, Err, Some, IsTrue};
+ghost use Rattle.std.specs.Prelude.{◌≡◌, ◌∷◌, [], ◌≢◌, ◌≤◌, ◌↔◌, ◌⊎◌, ℕ, List, length, vec_len, false, Ok, Err, Some, IsTrue, IfOk, IfErr};
 ghost use Rattle.derivation.specs.declared.error.DeriveError.{DeriveError as DeriveError_spec};
 ghost use Rattle.derivation.specs.declared.error.DeriveError.TheVariants as DeriveError_variants;
 ghost use Rattle.program_io.specs.Counting.{Rose};
@@ -8,14 +8,16 @@ ghost use Rattle.program_text.specs.Arguments.{arguments_of};
 ghost use Rattle.program_text.specs.Command.{command_of, for_tables, for_query, for_demo};
 ghost use Rattle.program_text.specs.Merge.{merge_of};
 ghost use Rattle.program_text.specs.Query.{for_merge, query_of};
+ghost use Rattle.program_text.specs.Lines.{text_of};
+ghost use Rattle.program_text.specs.Report.{start_lines, whole_text};
 ghost use Rattle.program_text.specs.Tables.{object_limit, tables_of};
-ghost use Rattle.derive_program.specs.Cause.{IsRunOf, IsReadFault, IsFileTooLong, IsBadLayout, IsRefused, IsFaulty, IsReported, IsReplyWritten, HasText, IsCutOff, IsUnwritten, IsGood, IsAskable, IsWrongLayout, IsAnswerOf, IsReplyOrNoMemory, IsReplyOrFault, IsDoneOrNoMemory, IsDoneOrFault, IsShownOrNoMemory, IsShownOrFault, IfDone, IfShown, IfRefused};
+ghost use Rattle.derive_program.specs.Cause.{IsRunOf, IsReadFault, IsFileTooLong, IsBadLayout, IsRefused, IsFaulty, IsReported, IsReplyWritten, HasText, IsCutOff, IsUnwritten, IsGood, IsAskable, IsWrongLayout, IsAnswerOf, IsReplyOrNoMemory, IsReplyOrFault, IsDoneOrNoMemory, IsDoneOrFault, IsShownOrNoMemory, IsShownOrFault, IfDone, IfShown, IfRefused, HasReport};
 ghost use Rattle.derive_program.specs.Calls.{HasReadFor, HasReadOf, read_faults_after, write_faults_after};
 ghost use Rattle.derive_program.specs.ProgramInput.{IsInputOf};
 ghost use Rattle.derive_program.specs.Reply.{Reply, IsReply, reply_in};
 ghost use Rattle.derive_program.specs.Shown.{IsShown};
 ghost use Rattle.derive_program.specs.Status.{may_write};
-ghost use Rattle.derive_program.specs.steps.Answer.{IsAnswerFor, IsWritingOf, IsQueryAnswer};
+ghost use Rattle.derive_program.specs.steps.Answer.{IsAnswerFor, IsInputOfFiles, IsSilentAnswer, IsWritingOf, IsQueryAnswer};
 
 use crate::browsing::browse_read;
 use crate::finding::find_read;
@@ -30,58 +32,62 @@ use gdb_index_format::IndexVersion;
 use program_files::{FilesRead, read_files, read_named};
 use program_io::{Files, Sink, SinkFault};
 use program_text::{
-    Command, LayoutError, MergeCommand, Query, TablesCommand, read_command, read_layout,
-    report_text,
+    Command, LayoutError, MergeCommand, Query, TablesCommand, push_tables, read_command,
+    read_layout, report_start,
 };
-use std::alloc::Global;
+use std::alloc::{AllocError, Global};
 
-/// Writes the report of tables, in one call.
-fn write_report<S: Sink>(alloc: Global, derived: Derived<'_>, out: &mut S) -> Ran
-    ensures steady { S.steady out.new ≡ S.steady out.old }
-    ensures faults { S.faults out.old ≤ S.faults out.new }
-    ensures counted { S.faults out.new ≡ write_faults_after result (S.faults out.old) }
-    ensures answer { IsWritingOf derived.entry.units.items derived.entry.names.items derived.entry.index.items derived.entry.sframe.items derived.entry.outcome (record { steady = S.steady out.old; faults = S.faults out.old; faults_now = S.faults out.new; written = S.written out.old; now = S.written out.new; puts = S.puts out.old; puts_now = S.puts out.new }) result }
+/// Tables, and the start of their report. It borrows nothing, so that the files can be freed before the report is whole.
+#[derive(Debug, Drop)]
+struct Started {
+    /// The report up to the tables.
+    text: Vec<u8>,
+    /// The tables.
+    tables: Tables,
+}
+
+/// Starts the report of tables, and frees their units and names.
+fn start_report(alloc: Global, derived: Derived<'_>) -> Result<Started, AllocError>
+    ensures text { IfOk result (λ s. s.text.items ≡ text_of (start_lines derived.entry.units.items derived.entry.names.items derived.entry.outcome)) }
+    ensures index { IfOk result (λ s. s.tables.index.items ≡ derived.entry.index.items) }
+    ensures sframe { IfOk result (λ s. s.tables.sframe.items ≡ derived.entry.sframe.items) }
+    ensures outcome { IfOk result (λ s. s.tables.outcome ≡ derived.entry.outcome) }
 {
-    let Ok(text) = report_text(
+    let text = report_start(
         alloc,
         &derived.units,
         &derived.names,
         derived.outcome,
         &derived.index,
         &derived.sframe,
-    ) else {
-        return Ran::NoMemory;
-    };
-    match out.put(&text) {
-        Ok(()) => Ran::Done(Tables {
+    )?;
+    Ok(Started {
+        text,
+        tables: Tables {
             index: derived.index,
             sframe: derived.sframe,
             outcome: derived.outcome,
-        }),
-        Err(SinkFault::Failed) => Ran::WriteFault,
-        Err(SinkFault::NoMemory) => Ran::NoMemory,
-    }
+        },
+    })
 }
 
-/// Reads the layout, derives the tables and writes their report.
-fn derive_read<S: Sink>(
+/// Reads the layout, derives the tables and starts their report.
+fn derive_read(
     alloc: Global,
     machine: Architecture,
     version: IndexVersion,
     read: &FilesRead,
-    out: &mut S,
-) -> Ran
+) -> Result<Started, Ran>
     requires buffer { vec_len read.now.buffer ≤ file_limit }
     requires objects { length read.now.objects.items ≤ object_limit }
-    ensures steady { S.steady out.new ≡ S.steady out.old }
-    ensures faults { S.faults out.old ≤ S.faults out.new }
-    ensures counted { S.faults out.new ≡ write_faults_after result (S.faults out.old) }
-    ensures answer { IsAnswerFor machine version read.now (record { steady = S.steady out.old; faults = S.faults out.old; faults_now = S.faults out.new; written = S.written out.old; now = S.written out.new; puts = S.puts out.old; puts_now = S.puts out.new }) result }
+    ensures started { IfOk result (λ s. HasReport (IsInputOfFiles machine version read.now) s.tables.index.items s.tables.sframe.items s.tables.outcome (whole_text s.text.items s.tables.index.items s.tables.sframe.items)) }
+    ensures refused { IfErr result (IsSilentAnswer machine version read.now) }
+    ensures counted { IfErr result (λ ran. (faults : ℕ) → write_faults_after ran faults ≡ faults) }
 {
     let layout = match read_layout(alloc, &read.layout) {
         Ok(layout) => layout,
-        Err(LayoutError::BadLine(line)) => return Ran::BadLayout(line),
-        Err(LayoutError::NoMemory) => return Ran::NoMemory,
+        Err(LayoutError::BadLine(line)) => return Err(Ran::BadLayout(line)),
+        Err(LayoutError::NoMemory) => return Err(Ran::NoMemory),
     };
     match derive_tables(
         alloc,
@@ -94,9 +100,54 @@ fn derive_read<S: Sink>(
         layout.base,
         version,
     ) {
-        Ok(derived) => write_report(alloc, derived, out),
-        Err(error) => Ran::from(error),
+        Ok(derived) => match start_report(alloc, derived) {
+            Ok(started) => Ok(started),
+            Err(_) => Err(Ran::NoMemory),
+        },
+        Err(error) => Err(Ran::from(error)),
     }
+}
+
+/// Completes the report of tables, and writes it, in one call.
+fn write_report<S: Sink>(started: Started, out: &mut S) -> Ran
+    ensures steady { S.steady out.new ≡ S.steady out.old }
+    ensures faults { S.faults out.old ≤ S.faults out.new }
+    ensures counted { S.faults out.new ≡ write_faults_after result (S.faults out.old) }
+    ensures answer { IsWritingOf started.tables.index.items started.tables.sframe.items started.tables.outcome (whole_text started.text.items started.tables.index.items started.tables.sframe.items) (record { steady = S.steady out.old; faults = S.faults out.old; faults_now = S.faults out.new; written = S.written out.old; now = S.written out.new; puts = S.puts out.old; puts_now = S.puts out.new }) result }
+{
+    let mut text = started.text;
+    let tables = started.tables;
+    let Ok(()) = push_tables(&mut text, &tables.index, &tables.sframe) else {
+        return Ran::NoMemory;
+    };
+    match out.put(&text) {
+        Ok(()) => Ran::Done(tables),
+        Err(SinkFault::Failed) => Ran::WriteFault,
+        Err(SinkFault::NoMemory) => Ran::NoMemory,
+    }
+}
+
+/// Reads the layout, derives the tables and writes their report. Frees the files before the report is whole, which is the largest text.
+fn report_read<S: Sink>(
+    alloc: Global,
+    machine: Architecture,
+    version: IndexVersion,
+    read: FilesRead,
+    out: &mut S,
+) -> Ran
+    requires buffer { vec_len read.buffer ≤ file_limit }
+    requires objects { length read.objects.items ≤ object_limit }
+    ensures steady { S.steady out.new ≡ S.steady out.old }
+    ensures faults { S.faults out.old ≤ S.faults out.new }
+    ensures counted { S.faults out.new ≡ write_faults_after result (S.faults out.old) }
+    ensures answer { IsAnswerFor machine version read (record { steady = S.steady out.old; faults = S.faults out.old; faults_now = S.faults out.new; written = S.written out.old; now = S.written out.new; puts = S.puts out.old; puts_now = S.puts out.new }) result }
+{
+    let started = match derive_read(alloc, machine, version, &read) {
+        Ok(started) => started,
+        Err(ran) => return ran,
+    };
+    drop(read);
+    write_report(started, out)
 }
 
 /// All steps of `tables`, with the cause of each answer.
@@ -119,7 +170,7 @@ fn answer_tables<F: Files, S: Sink>(
     ensures cause { (words : List (List ℕ)) → command_of words ≡ Ok (for_tables (tables_of command.now)) → IsRunOf words (record { held = F.held files.old; steady = F.steady files.old; faults = F.faults files.old; faults_now = F.faults files.new; taken = F.taken files.old; taken_now = F.taken files.new }) (record { steady = S.steady out.old; faults = S.faults out.old; faults_now = S.faults out.new; written = S.written out.old; now = S.written out.new; puts = S.puts out.old; puts_now = S.puts out.new }) result }
 {
     match read_files(alloc, command, files) {
-        Ok(read) => derive_read(alloc, command.machine, command.index_version(), &read, out),
+        Ok(read) => report_read(alloc, command.machine, command.index_version(), read, out),
         Err(error) => Ran::from(error),
     }
 }

@@ -2,7 +2,9 @@
 
 use elf_format::{Architecture, Span};
 use gdb_index_format::{CuBoundary, IndexVersion, NameWords, Placement};
-use program_text::{Command, LayoutError, TablesCommand, read_command, read_layout, report_text};
+use program_text::{
+    Command, LayoutError, TablesCommand, push_tables, read_command, read_layout, report_start,
+};
 use sframe_format::SframeOutcome;
 use std::alloc::Global;
 use std::test::Fail;
@@ -153,19 +155,16 @@ fn a_report(rt: HostRuntime) -> Result<(), Fail> {
         name: b"",
         words: [0x9000_0000].to_vec(alloc)?,
     })?;
-    let text = report_text(
-        alloc,
-        &units,
-        &names,
-        SframeOutcome::Sorted { used: 74 },
-        &[0x0a; 33],
-        &[],
-    )?;
+    let index = [0x0a; 33];
+    let outcome = SframeOutcome::Sorted { used: 74 };
+    let mut text = report_start(alloc, &units, &names, outcome, &index, &[])?;
+    push_tables(&mut text, &index, &[])?;
     assert_eq!(rt;
         text.as_slice(),
         b"units 1\nunit 0 0 64\nnames 2\nname 616c706861 30000000 b0000001\nname - 90000000\noutcome sorted 74\nindex 33\n0a0a0a0a0a0a0a0a0a0a0a0a0a0a0a0a0a0a0a0a0a0a0a0a0a0a0a0a0a0a0a0a\n0a\nsframe 0\n".as_slice()
     );
-    let empty = report_text(alloc, &[], &[], SframeOutcome::NoDescriptors, &[], &[])?;
+    let mut empty = report_start(alloc, &[], &[], SframeOutcome::NoDescriptors, &[], &[])?;
+    push_tables(&mut empty, &[], &[])?;
     assert_eq!(rt;
         empty.as_slice(),
         b"units 0\nnames 0\noutcome none\nindex 0\nsframe 0\n".as_slice()

@@ -41,13 +41,13 @@ browse_of command = record { index = command.index.now; prefix = prefix_in comma
 abbrev pub address_line : AddressEntry → List ℕ
 address_line entry = fields (codes "address") (entry.low ∷ entry.high ∷ entry.unit ∷ [])
 
--- the lines of what an index lists: its units, its address entries, and names with their CU vectors
-abbrev pub listed_lines : List CuBoundary → List AddressEntry → List Named → List (List ℕ)
-listed_lines units addresses names =
+-- the lines of what an index lists, before its names: its units, its address entries, and the number of names
+abbrev pub listing_start_lines : List CuBoundary → List AddressEntry → ℕ → List (List ℕ)
+listing_start_lines units addresses count =
     (fields (codes "units") (length units ∷ []) ∷ unit_lines 0 units)
     ++ (fields (codes "addresses") (length addresses ∷ []) ∷ map address_line addresses)
-    ++ (fields (codes "names") (length names ∷ []) ∷ map named_line names)
+    ++ fields (codes "names") (count ∷ []) ∷ []
 
--- the text of what an index lists
+-- the text of what an index lists: its units, its address entries, and names with their CU vectors
 abbrev pub listed_text : List CuBoundary → List AddressEntry → List Named → List ℕ
-listed_text units addresses names = text_of (listed_lines units addresses names)
+listed_text units addresses names = text_of (listing_start_lines units addresses (length names)) ++ text_of (map named_line names)

@@ -57,15 +57,21 @@ byte_lines bytes = map (λ k. encode_lower (row bytes k)) (range_with_len 0 ((le
 abbrev pub section_lines : List ℕ → List ℕ → List (List ℕ)
 section_lines name bytes = fields name (length bytes ∷ []) ∷ byte_lines bytes
 
--- the lines of the whole report
-abbrev pub report_lines : List CuBoundary → List NameWords → SframeOutcome → List ℕ → List ℕ → List (List ℕ)
-report_lines units names outcome index sframe =
+-- the lines before the tables: the units, the names and the outcome
+abbrev pub start_lines : List CuBoundary → List NameWords → SframeOutcome → List (List ℕ)
+start_lines units names outcome =
     (fields (codes "units") (length units ∷ []) ∷ unit_lines 0 units)
     ++ (fields (codes "names") (length names ∷ []) ∷ map name_line names)
     ++ outcome_line outcome ∷ []
-    ++ section_lines (codes "index") index
-    ++ section_lines (codes "sframe") sframe
+
+-- the lines of both tables
+abbrev pub table_lines : List ℕ → List ℕ → List (List ℕ)
+table_lines index sframe = section_lines (codes "index") index ++ section_lines (codes "sframe") sframe
+
+-- a report by its start
+abbrev pub whole_text : List ℕ → List ℕ → List ℕ → List ℕ
+whole_text start index sframe = start ++ text_of (table_lines index sframe)
 
 -- the report
 abbrev pub report_of : List CuBoundary → List NameWords → SframeOutcome → List ℕ → List ℕ → List ℕ
-report_of units names outcome index sframe = text_of (report_lines units names outcome index sframe)
+report_of units names outcome index sframe = whole_text (text_of (start_lines units names outcome)) index sframe

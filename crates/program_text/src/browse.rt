@@ -1,13 +1,12 @@
 //! The command `browse INDEX [PREFIXHEX]`: its arguments, and the text of what an index lists.
 ghost use Rattle.std.specs.Prelude.{◌≡◌, ◌++◌, map, IfOk, OnOk, MatchResult};
-ghost use Rattle.gdb_index_format.specs.Named.{all_named};
 ghost use Rattle.program_text.specs.Arguments.{arguments_of};
-ghost use Rattle.program_text.specs.Browse.{after_browse, browse_of, address_line, listed_text};
+ghost use Rattle.program_text.specs.Browse.{after_browse, browse_of, address_line, listing_start_lines};
 ghost use Rattle.program_text.specs.Lines.{text_of};
 
 use crate::hexadecimal::is_hexadecimal;
-use crate::report::{DIGITS, LINE, push_fields, push_names, push_units, room_of_names};
-use gdb_index_format::{AddressEntry, CuBoundary, NameWords};
+use crate::report::{DIGITS, LINE, push_fields, push_units};
+use gdb_index_format::{AddressEntry, CuBoundary};
 use std::alloc::{AllocError, Global};
 
 /// The command `browse`.
@@ -68,23 +67,24 @@ fn room_of_lines(units: usize, addresses: usize) -> usize {
     lines.saturating_mul(LINE + 2 * DIGITS)
 }
 
-/// Returns the text of what an index lists: `units N`; for each unit `unit K OFFSET LENGTH`, with K from 0; `addresses N`; for each address
-/// entry `address LOW HIGH UNIT`; `names N`; for each name `name HEX` and its CU vector, as in a report.
-pub fn listing_text(
+/// Returns the start of the text of what an index lists: `units N`; for each unit `unit K OFFSET LENGTH`, with K from 0; `addresses N`; for each
+/// address entry `address LOW HIGH UNIT`; `names N`. The line of each name follows, by `push_name`; the text has room for them, which take at most
+/// `room` bytes.
+pub fn listing_start(
     alloc: Global,
     units: &[CuBoundary],
     addresses: &[AddressEntry],
-    names: &[NameWords<'_>],
+    names: usize,
+    room: usize,
 ) -> Result<Vec<u8>, AllocError>
-    ensures { IfOk result (λ text. text.items ≡ listed_text units.now addresses.now (all_named names.now)) }
+    ensures { IfOk result (λ text. text.items ≡ text_of (listing_start_lines units.now addresses.now names)) }
 {
-    let room = room_of_lines(units.len(), addresses.len()).saturating_add(room_of_names(names));
-    let mut out = Vec::with_capacity(alloc, room)?;
+    let lines = room_of_lines(units.len(), addresses.len());
+    let mut out = Vec::with_capacity(alloc, lines.saturating_add(room))?;
     push_fields(&mut out, "units", &[units.len() as u64])?;
     push_units(&mut out, units)?;
     push_fields(&mut out, "addresses", &[addresses.len() as u64])?;
     push_addresses(&mut out, addresses)?;
-    push_fields(&mut out, "names", &[names.len() as u64])?;
-    push_names(&mut out, names)?;
+    push_fields(&mut out, "names", &[names as u64])?;
     Ok(out)
 }

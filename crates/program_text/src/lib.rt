@@ -19,7 +19,7 @@ mod query;
 mod report;
 mod tables;
 
-pub use browse::{BrowseCommand, listing_text};
+pub use browse::{BrowseCommand, listing_start};
 pub use command::{Command, read_command};
 pub use demo::{DemoCommand, Summary, summary_text};
 pub use find::{FindCommand, found_text};
@@ -28,5 +28,5 @@ pub use laws::{numbers_have_one_text, small_commands, small_layouts};
 pub use layout::{Layout, LayoutError, read_layout};
 pub use merge::{MergeCommand, index_text};
 pub use query::Query;
-pub use report::report_text;
+pub use report::{push_name, push_tables, report_start, room_of_name};
 pub use tables::TablesCommand;

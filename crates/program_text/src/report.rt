@@ -1,12 +1,12 @@
 //! The report: compilation units (CUs), names with their CU vectors, the outcome for the SFrame section, and the bytes of both tables, 32 a line.
 //!
 //! Every line ends with a line feed. Numbers are decimal, bytes and the elements of CU vectors lower-case hexadecimal. It is built in one
-//! buffer, which is allocated once.
+//! buffer, which is allocated once, in two parts: what the first is made from can be freed before the second.
 ghost use Rattle.std.specs.Prelude.{◌≡◌, ◌≤◌, ◌<◌, ◌++◌, ◌∷◌, [], length, take, drop, codes, map, slice_index, IfOk, OnOk};
 ghost use Rattle.std.specs.List.{flat_map};
 ghost use Rattle.hex.specs.Hex.{encode_lower, lower_digits};
 ghost use Rattle.program_text.specs.Lines.{text_of};
-ghost use Rattle.program_text.specs.Report.{fields, unit_lines, name_digits, word_digits, name_line, outcome_line, byte_lines, section_lines, report_of};
+ghost use Rattle.program_text.specs.Report.{fields, unit_lines, name_digits, word_digits, named_line, name_line, outcome_line, byte_lines, section_lines, start_lines, table_lines};
 
 use gdb_index_format::{CuBoundary, NameWords};
 use itoa::Buffer;
@@ -135,28 +135,29 @@ fn push_words(out: &mut Vec<u8>, words: &[u32]) -> Result<(), AllocError>
     Ok(())
 }
 
-/// Appends the line of a name with its CU vector.
-fn push_name(out: &mut Vec<u8>, named: &NameWords<'_>) -> Result<(), AllocError>
-    ensures ok { OnOk result (out.new.items ≡ out.old.items ++ text_of (name_line named.now ∷ [])) }
+/// Appends the line of a name with the elements of its CU vector: `name HEX` and eight digits each, by spaces, where HEX is `-` for the empty
+/// name.
+pub fn push_name(out: &mut Vec<u8>, name: &[u8], words: &[u32]) -> Result<(), AllocError>
+    ensures ok { OnOk result (out.new.items ≡ out.old.items ++ text_of (named_line (record { name = name.now; words = words.now }) ∷ [])) }
 {
     out.extend_from_slice(b"name ")?;
-    if named.name.is_empty() {
+    if name.is_empty() {
         out.extend_from_slice(b"-")?;
     } else {
-        push_digits(out, named.name)?;
+        push_digits(out, name)?;
     }
-    push_words(out, &named.words)?;
+    push_words(out, words)?;
     out.extend_from_slice(b"\n")?;
     Ok(())
 }
 
 /// Appends the line of each name.
-pub(crate) fn push_names(out: &mut Vec<u8>, names: &[NameWords<'_>]) -> Result<(), AllocError>
+fn push_names(out: &mut Vec<u8>, names: &[NameWords<'_>]) -> Result<(), AllocError>
     ensures ok { OnOk result (out.new.items ≡ out.old.items ++ text_of (map name_line names.now)) }
 {
     let mut rest = names;
     while let [named, after @ ..] = rest {
-        push_name(out, named)?;
+        push_name(out, named.name, &named.words)?;
         rest = after;
     }
     Ok(())
@@ -198,16 +199,19 @@ pub(crate) fn push_section(out: &mut Vec<u8>, name: &str, bytes: &[u8]) -> Resul
     Ok(())
 }
 
-/// Returns how many bytes the lines of the names take.
-pub(crate) fn room_of_names(names: &[NameWords<'_>]) -> usize {
+/// Returns how many bytes the line of a name of so many bytes with so many elements takes at most.
+pub fn room_of_name(bytes: usize, words: usize) -> usize {
+    bytes
+        .saturating_mul(2)
+        .saturating_add(words.saturating_mul(9))
+        .saturating_add(7)
+}
+
+/// Returns how many bytes the lines of the names take at most.
+fn room_of_names(names: &[NameWords<'_>]) -> usize {
     let mut room = 0usize;
     for named in names {
-        let digits = named.name.len().saturating_mul(2);
-        let words = named.words.len().saturating_mul(9);
-        room = room
-            .saturating_add(digits)
-            .saturating_add(words)
-            .saturating_add(7);
+        room = room.saturating_add(room_of_name(named.name.len(), named.words.len()));
     }
     room
 }
@@ -220,12 +224,11 @@ pub(crate) fn room_of_rows(bytes: &[u8]) -> usize {
         .saturating_add(bytes.len() / ROW + 1)
 }
 
-/// Returns the report of a run, as a text of lines:
+/// Returns the start of the report of tables, as a text of lines, in a buffer that has room for all of it:
 ///
 /// `units N`; for each unit `unit K OFFSET LENGTH`, with K from 0; `names N`; for each name `name HEX` and its CU vector in eight digits each, by
-/// spaces, where HEX is `-` for the empty name; `outcome sorted USED`, `outcome none` or `outcome version V`; `index LENGTH` and the bytes
-/// of the index, 32 a line; `sframe LENGTH` and the bytes of the SFrame section, 32 a line.
-pub fn report_text(
+/// spaces, where HEX is `-` for the empty name; `outcome sorted USED`, `outcome none` or `outcome version V`. `push_tables` adds what is left.
+pub fn report_start(
     alloc: Global,
     units: &[CuBoundary],
     names: &[NameWords<'_>],
@@ -233,7 +236,7 @@ pub fn report_text(
     index: &[u8],
     sframe: &[u8],
 ) -> Result<Vec<u8>, AllocError>
-    ensures { IfOk result (λ text. text.items ≡ report_of units.now names.now outcome index.now sframe.now) }
+    ensures { IfOk result (λ text. text.items ≡ text_of (start_lines units.now names.now outcome)) }
 {
     let lines = units
         .len()
@@ -249,7 +252,15 @@ pub fn report_text(
     push_fields(&mut out, "names", &[names.len() as u64])?;
     push_names(&mut out, names)?;
     push_outcome(&mut out, outcome)?;
-    push_section(&mut out, "index", index)?;
-    push_section(&mut out, "sframe", sframe)?;
     Ok(out)
+}
+
+/// Appends the lines of both tables to the start of their report: `index LENGTH` and the bytes of the index, 32 a line; `sframe LENGTH` and the
+/// bytes of the SFrame section, 32 a line.
+pub fn push_tables(out: &mut Vec<u8>, index: &[u8], sframe: &[u8]) -> Result<(), AllocError>
+    ensures ok { OnOk result (out.new.items ≡ out.old.items ++ text_of (table_lines index.now sframe.now)) }
+{
+    push_section(out, "index", index)?;
+    push_section(out, "sframe", sframe)?;
+    Ok(())
 }

@@ -11,8 +11,6 @@ use Rattle.program_files.specs.declared.files_read.FilesRead.{FilesRead}
 use Rattle.program_text.specs.Layout.{LayoutEntries, layout_of}
 use Rattle.derive_program.specs.declared.ran.Ran.{Ran}
 use Rattle.derive_program.specs.declared.ran.Ran.TheVariants.{Done, Shown, Refused, RefusedMerge, BadLayout, ReadFault, FileTooLong, WriteFault, NoMemory}
-use Rattle.gdb_index_format.specs.declared.name_words.NameWords.{NameWords}
-use Rattle.gdb_index_format.specs.declared.unit.CuBoundary.{CuBoundary}
 use Rattle.gdb_index_format.specs.Named.{Named}
 use Rattle.gdb_index_format.specs.Units.{index_units}
 use Rattle.index_browser.specs.Areas.{index_addresses}
@@ -24,7 +22,6 @@ use Rattle.program_text.specs.Demo.{shown_of}
 use Rattle.index_merge.specs.declared.error.MergeError.{MergeError}
 use Rattle.index_merge.specs.declared.error.MergeError.TheVariants as merging
 use Rattle.program_text.specs.Query.{Query}
-use Rattle.program_text.specs.Report.{report_of}
 use Rattle.derive_program.specs.Cause.{HasReport, IsRefused, IsReported, IsCutOff, IsNotWritten}
 use Rattle.derive_program.specs.ProgramInput.{ProgramInput}
 use Rattle.derive_program.specs.Reply.{Reply, names_listed, index_merged, IsReply, lookup_text, IsListing, IsMergedText, IsReplyText, reply_in}
@@ -77,13 +74,17 @@ IsAnswerFor machine version files writes ran = ⊥
 abbrev pub IsShortOfMemory : List ℕ → Writes → Type 0
 IsShortOfMemory text writes = (writes.now ≡ writes.written) × ((writes.puts_now ≡ writes.puts) ⊎ IsPutOnce writes text)
 
--- the report was written, a prefix of it was, or memory ran out before or in the one call
-abbrev pub IsWritingOf : List CuBoundary → List NameWords → List ℕ → List ℕ → SframeOutcome → Writes → Ran → Type 0
-IsWritingOf units names index sframe outcome writes (Done tables) =
-    (tables.index.items ≡ index) × (tables.sframe.items ≡ sframe) × (tables.outcome ≡ outcome) × IsReportWritten writes (report_of units names outcome index sframe)
-IsWritingOf units names index sframe outcome writes WriteFault = IsPrefixWritten writes (report_of units names outcome index sframe)
-IsWritingOf units names index sframe outcome writes NoMemory = IsShortOfMemory (report_of units names outcome index sframe) writes
-IsWritingOf units names index sframe outcome writes ran = ⊥
+-- what an answer that was found before any call of the sink is for these files
+abbrev pub IsSilentAnswer : Architecture → IndexVersion → FilesRead → Ran → Type 0
+IsSilentAnswer machine version files ran = (writes : Writes) → IsSilent writes → IsAnswerFor machine version files writes ran
+
+-- this report was written, a prefix of it was, or memory ran out before or in the one call
+abbrev pub IsWritingOf : List ℕ → List ℕ → SframeOutcome → List ℕ → Writes → Ran → Type 0
+IsWritingOf index sframe outcome text writes (Done tables) =
+    (tables.index.items ≡ index) × (tables.sframe.items ≡ sframe) × (tables.outcome ≡ outcome) × IsReportWritten writes text
+IsWritingOf index sframe outcome text writes WriteFault = IsPrefixWritten writes text
+IsWritingOf index sframe outcome text writes NoMemory = IsShortOfMemory text writes
+IsWritingOf index sframe outcome text writes ran = ⊥
 
 -- the text of a reply was written, a prefix of it was, or memory ran out before or in the one call
 abbrev pub IsReplyWriting : Reply → List ℕ → Writes → Ran → Type 0

@@ -6,14 +6,14 @@ use Rattle.derive_program.proofs.steps.answer_tables.Goals as goal
 
 pub returns-in-Ok-clause-cause : goal.returns-in-Ok-clause-cause
 returns-in-Ok-clause-cause g c = λ words said.
-    run_of_answer _ _ _ (tables_of c.args.command.now) c.index_version.result c.in-Ok.read c.derive_read.result c.index_version.ensures said c.in-Ok.ensures.known c.in-Ok.ensures.inside c.derive_read.ensures.answer
+    run_of_answer _ _ _ (tables_of c.args.command.now) c.index_version.result c.in-Ok.read c.report_read.result c.index_version.ensures said c.in-Ok.ensures.known c.in-Ok.ensures.inside c.report_read.ensures.answer
 
 pub returns-in-Ok-clause-reads : goal.returns-in-Ok-clause-reads
 returns-in-Ok-clause-reads g c =
-    after_reading _ _ _ _ (tables_of c.args.command.now) _ _ c.derive_read.result c.in-Ok.ensures.reads c.derive_read.ensures.answer
+    after_reading _ _ _ _ (tables_of c.args.command.now) _ _ c.report_read.result c.in-Ok.ensures.reads c.report_read.ensures.answer
 
 pub returns-in-Ok-clause-counted : goal.returns-in-Ok-clause-counted
-returns-in-Ok-clause-counted g c = counted_after _ _ _ _ _ _ c.derive_read.result c.in-Ok.ensures.counted c.derive_read.ensures.answer
+returns-in-Ok-clause-counted g c = counted_after _ _ _ _ _ _ c.report_read.result c.in-Ok.ensures.counted c.report_read.ensures.answer
 
 pub returns-in-Err-clause-cause : goal.returns-in-Err-clause-cause
 returns-in-Err-clause-cause g c = λ words said.

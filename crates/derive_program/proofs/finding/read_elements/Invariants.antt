@@ -1,5 +1,5 @@
 use Rattle.std.proofs.Common.{◌≡◌, ◌-◌, length, take}
-use Rattle.derive_program.proofs.finding.elements_of.Given as goal
+use Rattle.derive_program.proofs.finding.read_elements.Given as goal
 
 abbrev pub invariant-elements : goal.invariant-elements
 invariant-elements l = l.elements.items ≡ take (length l.elements.items) l.vector
