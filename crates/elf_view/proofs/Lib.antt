@@ -2,7 +2,6 @@ pub mod ClassNames
 pub mod CompressionLemmas
 pub mod DynamicLemmas
 pub mod GroupLemmas
-pub mod NameLemmas
 pub mod RelocationLemmas
 pub mod SectionsFit
 pub mod SonameLemmas

@@ -10,10 +10,10 @@ ghost use Rattle.elf_format.specs.Section.{file_header, sections};
 ghost use Rattle.elf_view.specs.AnyFile.{parsed, NamesItsClass};
 
 use crate::file::File;
-use crate::header::read_header;
 use elf_format::{Architecture, ElfError};
 use elf_records32::Class32;
 use elf_records64::Class64;
+use elf_sections::read_header;
 use elf_words::{ElfClass, FileHeaderFields};
 
 /// A well-formed file of either class.

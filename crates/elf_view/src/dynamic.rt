@@ -12,8 +12,8 @@ ghost use Rattle.elf_format.specs.declared.error.ElfError.TheVariants.{SectionDa
 ghost use Rattle.elf_view.specs.TagValues.{shown_values, values_in, tag_values};
 
 use crate::file::File;
-use crate::section::bytes_of_section;
 use elf_format::ElfError;
+use elf_sections::bytes_of_section;
 use elf_versions::string_at;
 use elf_words::{DynFields, ElfClass, ElfWord, Record, Records, SHT_DYNAMIC, SectionHeaderFields};
 

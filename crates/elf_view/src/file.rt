@@ -20,21 +20,17 @@ ghost use Rattle.elf_view.specs.SectionData.{plain_bytes, data_fault};
 ghost use Rattle.elf_format.specs.declared.error.ElfError.TheVariants.{SectionTable, SectionData, SymbolIndex as MissingSymbol};
 
 use crate::enumerate::{RecordEnum, SectionEnum};
-use crate::header::read_header;
-use crate::index_entry::IndexEntry;
 use crate::reloc_error::RelocError;
 use crate::relocation_list::{list_of_section, no_relocations};
 use crate::relocation_sections::RelocationSections;
-use crate::section::{bytes_of_section, is_string_at};
-use crate::section_table::{read_section_headers, read_section_names};
-use crate::symbol::are_symbols_well_formed;
-use crate::symbol_table::{
-    find_symbol_table, read_section_indexes, read_symbol_strings, read_symbols,
-};
-use crate::version::{are_versions_well_formed, read_symbol_versions};
 use elf_format::{Architecture, ElfError};
 use elf_records64::Class64;
 use elf_relocs::RelocationList;
+use elf_sections::{
+    IndexEntry, are_symbols_well_formed, are_versions_well_formed, bytes_of_section,
+    find_symbol_table, is_string_at, read_header, read_section_headers, read_section_indexes,
+    read_section_names, read_symbol_strings, read_symbol_versions, read_symbols,
+};
 use elf_tables::Versym;
 use elf_versions::string_at;
 use elf_words::{

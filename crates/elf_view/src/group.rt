@@ -11,9 +11,8 @@ ghost use Rattle.elf_format.specs.Section.{sections, section_bytes};
 ghost use Rattle.elf_view.specs.GroupFault.{IsGroupFault, shown_group};
 
 use crate::group_error::GroupError;
-use crate::index_entry::IndexEntry;
-use crate::section::bytes_of_section;
 use elf_format::ElfError;
+use elf_sections::{IndexEntry, bytes_of_section};
 use elf_words::{Record, Records, SectionHeaderFields, SectionIndex, SymbolIndex};
 use std::marker::Model;
 

@@ -10,8 +10,8 @@ ghost use Rattle.elf_view.specs.GroupFault.{IsGroupFault, shown_group};
 use crate::file::File;
 use crate::group::{SectionGroup, group_of, read_words};
 use crate::group_error::GroupError;
-use crate::symbol_table::find_symbol_table;
 use elf_format::ElfError;
+use elf_sections::find_symbol_table;
 use elf_words::{ElfClass, Record, SectionHeaderFields, SectionIndex, SymbolIndex};
 use std::alloc::Global;
 

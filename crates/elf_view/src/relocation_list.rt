@@ -7,9 +7,9 @@ ghost use Rattle.elf_format.specs.Rela.{rela_list};
 ghost use Rattle.elf_format.specs.Crel.{listing};
 ghost use Rattle.elf_relocs.specs.Lists.{listing_of_list};
 
-use crate::section::bytes_of_section;
 use elf_format::ElfError;
 use elf_relocs::{CrelIterator, RelaView, RelocationList};
+use elf_sections::bytes_of_section;
 use elf_words::{ElfClass, Record, SHT_CREL, SHT_RELA, SectionHeaderFields};
 
 /// Views bytes as RELA records.

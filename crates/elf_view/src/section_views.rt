@@ -10,8 +10,8 @@ ghost use Rattle.elf_view.specs.SectionData.{plain_bytes, data_fault, display_na
 ghost use Rattle.elf_view.specs.steps.Compression.{compression_header};
 
 use crate::file::File;
-use crate::section::bytes_of_section;
 use elf_format::ElfError;
+use elf_sections::bytes_of_section;
 use elf_words::{
     CompressionFields, ElfClass, Record, SHF_COMPRESSED, SectionHeaderFields, SectionIndex,
 };

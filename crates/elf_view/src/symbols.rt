@@ -12,8 +12,8 @@ ghost use Rattle.elf_format.specs.declared.error.ElfError.TheVariants.{SymbolTab
 
 use crate::enumerate::{RecordEnum, SymbolEnum};
 use crate::file::File;
-use crate::version::find_version_section;
 use elf_format::ElfError;
+use elf_sections::find_version_section;
 use elf_tables::Versym;
 use elf_versions::string_at;
 use elf_words::{ElfClass, Records, SHT_GNU_VERDEF, SectionHeaderFields, SectionIndex, SymFields};

@@ -19,9 +19,8 @@ ghost use Rattle.elf_view.specs.SymbolVersion.{versioned_by};
 ghost use Rattle.elf_format.specs.declared.error.ElfError.TheVariants.{SymbolTable};
 
 use crate::file::File;
-use crate::section::{bytes_of_section, strings_of_link};
-use crate::version::find_version_section;
 use elf_format::ElfError;
+use elf_sections::{bytes_of_section, find_version_section, strings_of_link};
 use elf_tables::{Verdef, Verneed};
 use elf_versions::{
     ChainHead, HeadChain, RawSymbolName, VerdefIter, VerneedIter, VerneedTable, VersionError,

@@ -1,6 +1,6 @@
 use Rattle.std.proofs.Common.{refl}
 use Rattle.elf_format.specs.Fault.{has_symbols}
-use Rattle.elf_view.proofs.symbol.are_symbols_well_formed.Goals as goal
+use Rattle.elf_sections.proofs.symbol.are_symbols_well_formed.Goals as goal
 
 pub loop-header-init : goal.loop-header-init
 unfolding has_symbols

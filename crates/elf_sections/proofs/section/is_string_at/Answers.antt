@@ -2,8 +2,8 @@ use Rattle.std.proofs.Common.{◌≡◌, ◌∙◌, ◌+◌, List, ℕ, length, 
 use Rattle.std.proofs.lemmas.List.{take_rest}
 use Rattle.elf_format.specs.Bytes as bytes
 use Rattle.elf_format.specs.Section.{is_name}
-use Rattle.elf_view.proofs.NameLemmas.{prefix_decides}
-use Rattle.elf_view.proofs.section.is_string_at.Goals as goal
+use Rattle.elf_sections.proofs.NameLemmas.{prefix_decides}
+use Rattle.elf_sections.proofs.section.is_string_at.Goals as goal
 
 pub returns-in-Some : goal.returns-in-Some
 returns-in-Some c =
