@@ -1,7 +1,7 @@
 //! Whole runs of `demo`: the summary, to the letter, the tables, usage errors, and a summary that is not written whole.
 
 use crate::arguments::arguments_of;
-use crate::runs::outcome;
+use crate::runs::other_end;
 use derive_program::{Ran, run};
 use program_io::{MemoryFiles, MemorySink};
 use sframe_format::SframeOutcome;
@@ -23,7 +23,7 @@ const HALF: &str = "objects 3\nunits 3\nnames 4\nindex";
 #[test]
 fn summaries_of_numbers(rt: HostRuntime) -> Result<(), Fail> {
     let alloc = rt.alloc();
-    for (words, put, line, code, text) in [
+    let rows = [
         ("demo 0", 9, "derive: Shown", 0, NONE),
         ("demo 1", 9, "derive: Shown", 0, ONE),
         ("demo 3", 9, "derive: Shown", 0, THREE),
@@ -34,13 +34,8 @@ fn summaries_of_numbers(rt: HostRuntime) -> Result<(), Fail> {
         ("demo 1001", 9, "derive: BadWords 1", 2, ""),
         ("demo x", 9, "derive: BadWords 1", 2, ""),
         ("demo 3 x", 9, "derive: BadWords 2", 2, ""),
-    ] {
-        let puts = [put].to_vec(alloc)?;
-        let (said, status, written) = outcome(alloc, words, &[], Vec::new(alloc), puts)?;
-        assert_eq!(rt; said.as_str(), line);
-        assert_eq!(rt; status, code);
-        assert_eq!(rt; written.as_slice(), text.as_bytes());
-    }
+    ];
+    assert_eq!(rt; other_end(alloc, &[], &rows)?.as_str(), "");
     Ok(())
 }
 

@@ -1,7 +1,7 @@
 //! Whole runs of `merge`: the merged index, to the letter, refusals of either index and of both, and files and texts that fail.
 
 use crate::queries::{MAIN, NO_OFFSETS};
-use crate::runs::outcome;
+use crate::runs::other_end;
 use std::test::Fail;
 
 /// The index of two units of twelve bytes that publish `main`, the second as a static function.
@@ -34,7 +34,7 @@ fn merged_indexes(rt: HostRuntime) -> Result<(), Fail> {
     let index = hex::decode(alloc, MAIN)?;
     let both = hex::decode(alloc, BOTH)?;
     let texts: [(&str, &[u8]); 4] = [("i", &index), ("b", &both), ("e", &[]), ("o", &NO_OFFSETS)];
-    for (words, put, line, code, text) in [
+    let rows = [
         ("merge i i 12", 9, "derive: Merged 101", 0, TWICE),
         ("merge i e 0", 9, "derive: Merged 81", 0, ALONE),
         ("merge e e 0", 9, "derive: Merged 0", 0, "index 0\n"),
@@ -67,12 +67,7 @@ fn merged_indexes(rt: HostRuntime) -> Result<(), Fail> {
         ("merge i i", 9, "derive: BadWords 3", 2, ""),
         ("merge i i 012", 9, "derive: BadWords 3", 2, ""),
         ("merge i i 12 x", 9, "derive: BadWords 4", 2, ""),
-    ] {
-        let puts = [put].to_vec(alloc)?;
-        let (said, status, written) = outcome(alloc, words, &texts, Vec::new(alloc), puts)?;
-        assert_eq!(rt; said.as_str(), line);
-        assert_eq!(rt; status, code);
-        assert_eq!(rt; written.as_slice(), text.as_bytes());
-    }
+    ];
+    assert_eq!(rt; other_end(alloc, &texts, &rows)?.as_str(), "");
     Ok(())
 }

@@ -1,7 +1,7 @@
 //! Whole runs of the commands that ask one thing of one file: the line on standard error, the exit status, and what is written.
 
 use crate::arguments::arguments_of;
-use crate::runs::{FRAMES, outcome, outcome_of};
+use crate::runs::{FRAMES, other_end, outcome, outcome_of};
 use std::test::Fail;
 
 /// The index of one unit of twelve bytes that publishes `main`.
@@ -62,23 +62,22 @@ fn names_in_an_index(rt: HostRuntime) -> Result<(), Fail> {
     let alloc = rt.alloc();
     let index = hex::decode(alloc, MAIN)?;
     let texts: [(&str, &[u8]); 2] = [("i", &index), ("o", &NO_OFFSETS)];
-    for (words, read, put, line, code, text) in [
-        ("find i 6d61696e", 9, 9, "derive: Found", 0, "30000000\n"),
-        ("find i 6D61696E", 9, 9, "derive: Found", 0, "30000000\n"),
-        ("find i 6d", 9, 9, "derive: Absent", 8, ""),
-        ("find o 6d", 9, 9, "derive: RefusedIndex Offsets", 1, ""),
-        ("find q 6d", 9, 9, "derive: ReadFault 1", 3, ""),
-        ("find i 6d61696e", 0, 9, "derive: ReadFault 1", 3, ""),
-        ("find i 6d61696e", 9, 0, "derive: WriteFault", 4, "3000"),
-        ("find i 6", 9, 9, "derive: BadWords 2", 2, ""),
-    ] {
-        let reads = [read].to_vec(alloc)?;
-        let puts = [put].to_vec(alloc)?;
-        let (said, status, written) = outcome(alloc, words, &texts, reads, puts)?;
-        assert_eq!(rt; said.as_str(), line);
-        assert_eq!(rt; status, code);
-        assert_eq!(rt; written.as_slice(), text.as_bytes());
-    }
+    let rows = [
+        ("find i 6d61696e", 9, "derive: Found", 0, "30000000\n"),
+        ("find i 6D61696E", 9, "derive: Found", 0, "30000000\n"),
+        ("find i 6d", 9, "derive: Absent", 8, ""),
+        ("find o 6d", 9, "derive: RefusedIndex Offsets", 1, ""),
+        ("find q 6d", 9, "derive: ReadFault 1", 3, ""),
+        ("find i 6d61696e", 0, "derive: WriteFault", 4, "3000"),
+        ("find i 6", 9, "derive: BadWords 2", 2, ""),
+    ];
+    assert_eq!(rt; other_end(alloc, &texts, &rows)?.as_str(), "");
+    let reads = [0].to_vec(alloc)?;
+    let none = Vec::new(alloc);
+    let (said, status, written) = outcome(alloc, "find i 6d61696e", &texts, reads, none)?;
+    assert_eq!(rt; said.as_str(), "derive: ReadFault 1");
+    assert_eq!(rt; status, 3);
+    assert_eq!(rt; written.len(), 0);
     let mut arguments = arguments_of(alloc, "find i")?;
     arguments.push(String::new(alloc))?;
     let none = Vec::new(alloc);
@@ -106,7 +105,7 @@ fn functions_of_addresses(rt: HostRuntime) -> Result<(), Fail> {
         ("h", &SORTED[..26]),
         ("c", &SORTED[..60]),
     ];
-    for (words, put, line, code, text) in [
+    let rows = [
         ("frame s 8192 8241", 9, "derive: Absent", 8, ""),
         (
             "frame s 8192 8242",
@@ -187,13 +186,8 @@ fn functions_of_addresses(rt: HostRuntime) -> Result<(), Fail> {
             1,
             "",
         ),
-    ] {
-        let puts = [put].to_vec(alloc)?;
-        let (said, status, written) = outcome(alloc, words, &texts, Vec::new(alloc), puts)?;
-        assert_eq!(rt; said.as_str(), line);
-        assert_eq!(rt; status, code);
-        assert_eq!(rt; written.as_slice(), text.as_bytes());
-    }
+    ];
+    assert_eq!(rt; other_end(alloc, &texts, &rows)?.as_str(), "");
     Ok(())
 }
 
@@ -203,7 +197,7 @@ fn lists_of_an_index(rt: HostRuntime) -> Result<(), Fail> {
     let index = hex::decode(alloc, MAIN)?;
     let addressed = hex::decode(alloc, ADDRESSED)?;
     let texts: [(&str, &[u8]); 3] = [("i", &index), ("a", &addressed), ("e", &[])];
-    for (words, put, line, code, text) in [
+    let rows = [
         (
             "browse i",
             9,
@@ -238,13 +232,8 @@ fn lists_of_an_index(rt: HostRuntime) -> Result<(), Fail> {
         ("browse i 6", 9, "derive: BadWords 2", 2, ""),
         ("browse i 6g", 9, "derive: BadWords 2", 2, ""),
         ("browse i 6d x", 9, "derive: BadWords 3", 2, ""),
-    ] {
-        let puts = [put].to_vec(alloc)?;
-        let (said, status, written) = outcome(alloc, words, &texts, Vec::new(alloc), puts)?;
-        assert_eq!(rt; said.as_str(), line);
-        assert_eq!(rt; status, code);
-        assert_eq!(rt; written.as_slice(), text.as_bytes());
-    }
+    ];
+    assert_eq!(rt; other_end(alloc, &texts, &rows)?.as_str(), "");
     Ok(())
 }
 
@@ -259,17 +248,12 @@ fn indexes_that_are_not_listed(rt: HostRuntime) -> Result<(), Fail> {
         ("s", &SORTED[..20]),
         ("o", &NO_OFFSETS),
     ];
-    for (words, line) in [
-        ("browse x", "derive: RefusedBrowse Misplaced 0"),
-        ("browse u", "derive: RefusedBrowse BadVector 1"),
-        ("browse s", "derive: RefusedBrowse Short"),
-        ("browse o", "derive: RefusedBrowse Format Offsets"),
-    ] {
-        let none = Vec::new(alloc);
-        let (said, status, written) = outcome(alloc, words, &texts, none, Vec::new(alloc))?;
-        assert_eq!(rt; said.as_str(), line);
-        assert_eq!(rt; status, 1);
-        assert_eq!(rt; written.as_slice(), b"".as_slice());
-    }
+    let rows = [
+        ("browse x", 9, "derive: RefusedBrowse Misplaced 0", 1, ""),
+        ("browse u", 9, "derive: RefusedBrowse BadVector 1", 1, ""),
+        ("browse s", 9, "derive: RefusedBrowse Short", 1, ""),
+        ("browse o", 9, "derive: RefusedBrowse Format Offsets", 1, ""),
+    ];
+    assert_eq!(rt; other_end(alloc, &texts, &rows)?.as_str(), "");
     Ok(())
 }

@@ -75,6 +75,26 @@ pub(crate) fn outcome_of(
     Ok((text, ran.status(), out.written().to_vec(alloc)?))
 }
 
+/// An expected run: its arguments, the call of the sink that fails (9: none), the line, the status, and what is written.
+pub(crate) type Row<'a> = (&'a str, u64, &'a str, u8, &'a str);
+
+/// Runs each row over these files, and says how the first that ends otherwise ended; the empty text where each ends as expected.
+pub(crate) fn other_end(
+    alloc: Global,
+    texts: &[(&str, &[u8])],
+    rows: &[Row<'_>],
+) -> Result<String, Fail> {
+    for (words, put, line, code, text) in rows {
+        let puts = [*put].to_vec(alloc)?;
+        let (said, status, written) = outcome(alloc, words, texts, Vec::new(alloc), puts)?;
+        if said.as_str() != *line || status != *code || written.as_slice() != text.as_bytes() {
+            let count = written.len();
+            return Ok(format!(in alloc; "{words}: {said}, {status}, {count} bytes")?);
+        }
+    }
+    Ok(String::new(alloc))
+}
+
 #[test]
 fn objects_without_tables(rt: HostRuntime) -> Result<(), Fail> {
     let alloc = rt.alloc();
