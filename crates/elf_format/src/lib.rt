@@ -1,6 +1,6 @@
 //! What the bytes of an ELF file mean (System V gABI). The definitions are in `specs/`, for both classes over
-//! one table of record sizes and field offsets. The plain types that they name are here, with laws over the
-//! definitions and examples of them, each as a public function with an empty body.
+//! one table of record sizes and field offsets. Here are the plain types that they name, and laws and worked
+//! examples of them: each law and each example is a public function with an empty body.
 #![tactic(auto)]
 
 mod architecture;

@@ -1,4 +1,4 @@
-//! The outside of the program: files that are read whole, and a sink that text is put into.
+//! What a program reads and writes: files that are read whole, and a sink that text is put into.
 //!
 //! Each is a trait. Its meanings say what is held or written, which calls were made, how many of them failed, and whether a call can fail
 //! at all. Memory implements both with known contents and calls that fail on demand. The system's files and a stream implement both, and

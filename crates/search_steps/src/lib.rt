@@ -1,4 +1,4 @@
-//! A count of search steps that takes no bytes when a program runs: of the slots that a probe of an index reads, and of the FDEs that a
+//! A count of the steps of searches, which takes no bytes when a program runs: of the slots that a probe of an index reads, and of the FDEs that a
 //! search by address reads. A bound on the steps of a search is a clause on this count.
 #![tactic(auto)]
 
